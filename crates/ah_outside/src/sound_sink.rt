@@ -1,0 +1,46 @@
+ghost use Rattle.std.specs.Prelude.{◌≡◌, length};
+
+use crate::{Failed, Sink};
+
+/// A sink that takes each piece whole and keeps nothing of it. It never fails, and tells no bytes.
+#[derive(Clone, Copy, Debug, Default)]
+pub struct SoundSink;
+
+impl SoundSink {
+    /// Makes a sink, which takes no memory.
+    pub fn new() -> SoundSink {
+        SoundSink
+    }
+}
+
+impl Sink for SoundSink {
+    ghost use Rattle.std.specs.Prelude.{None};
+
+    ghost gained = { λ _. None };
+
+    ghost fault_count = { λ _. 0 };
+
+    fn faults(&self) -> u64 {
+        0
+    }
+
+    fn put(&mut self, piece: &[u8]) -> Result<usize, Failed>
+        ensures { result ≡ Ok (length piece.now) }
+    {
+        Ok(piece.len())
+    }
+}
+
+#[cfg(test)]
+mod tests {
+    use super::*;
+    use crate::put_all;
+
+    #[test]
+    fn takes_each_piece(rt: HostRuntime) {
+        let mut sink = SoundSink::new();
+        assert_eq!(rt; sink.put(b"abc"), Ok(3));
+        assert_eq!(rt; put_all(&mut sink, b"de"), Ok(()));
+        assert_eq!(rt; sink.faults(), 0);
+    }
+}

@@ -1,0 +1,9 @@
+pub mod ClassLists
+pub mod Copies
+pub mod Growth
+pub mod Layouts
+pub mod Lists
+pub mod Places
+pub mod References
+pub mod RowLaws
+pub mod Uniqueness
