@@ -43,7 +43,7 @@ impl<R: Read> Source for ReadSource<R> {
         self.faults
     }
 
-    /// Fails exactly where the reader does, also where that was only interrupted.
+    /// Fails where the reader does, also where that was only interrupted.
     fn take(&mut self, buf: &mut [u8]) -> Result<usize, Failed>
         requires { 0 < length buf.old }
         ensures within { IfOk result (λ n. n ≤ length buf.old) }

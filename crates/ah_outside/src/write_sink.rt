@@ -41,7 +41,7 @@ impl<W> WriteSink<W> {
 }
 
 impl<W: Write> WriteSink<W> {
-    /// Hands on the bytes that the writer holds back. Fails exactly where the writer does.
+    /// Hands on the bytes that the writer holds back. Fails where the writer does.
     pub fn flush(&mut self) -> Result<(), Failed>
         ensures keeps { Keeps (W.contents self.old.inner) (W.contents self.new.inner) }
 
@@ -67,7 +67,7 @@ impl<W: Write> Sink for WriteSink<W> {
         self.faults
     }
 
-    /// Fails exactly where the writer does, or takes nothing of a piece that isn't empty.
+    /// Fails where the writer does, or takes nothing of a piece that isn't empty.
     fn put(&mut self, piece: &[u8]) -> Result<usize, Failed>
         ensures within { IfOk result (λ n. n ≤ length piece.now) }
         ensures writes { WriteAppends (W.contents self.old.inner) (W.contents self.new.inner) result piece.now }
