@@ -48,7 +48,7 @@ size_of cs k = next_multiple 8 (layout_of cs k).end
 abbrev pub own_fields_of : List Class → ℕ → List FieldDecl
 own_fields_of cs k = unwrap_or (slice_get (map (λ c. c.fields) cs) k) []
 
--- the class of a name
+-- the number of the class of a name
 abbrev pub number_of : List Class → List ℕ → Option ℕ
 number_of cs name = position (λ c. same_name c.name name) cs
 
@@ -65,24 +65,28 @@ repeats (f ∷ fs) = declares fs f.name || repeats fs
 abbrev pub occurs_in : Laid → List FieldDecl → Bool
 occurs_in laid fs = list_any (λ f. list_any (λ p. same_name p.name f.name) laid.fields) fs
 
--- what defining a class gives: the list with the class at its end, or the first refusal that fits
+-- the last step of defining a class: whether a field name is taken
 abbrev pub define_after_fields : List Class → Class → Bool → Result (List Class) DefineError
 define_after_fields cs c true = Err FieldTaken
 define_after_fields cs c false = Ok (cs ++ c ∷ [])
 
+-- the step before it: whether there are as many classes as may be
 abbrev pub define_after_limit : List Class → List ℕ → ℕ → List FieldDecl → Bool → Result (List Class) DefineError
 define_after_limit cs name p fs true = Err Limit
 define_after_limit cs name p fs false =
     define_after_fields cs (record { name = name; parent = Some p; fields = fs }) (repeats fs || occurs_in (layout_of cs p) fs)
 
+-- the step before that: whether the superclass is known, and by which number
 abbrev pub define_under : List Class → List ℕ → Option ℕ → List FieldDecl → Result (List Class) DefineError
 define_under cs name None fs = Err NoSuper
 define_under cs name (Some p) fs = define_after_limit cs name p fs (nat_le 65536 (length cs))
 
+-- the first step: whether a class has the name
 abbrev pub define_new : List Class → List ℕ → List ℕ → List FieldDecl → Bool → Result (List Class) DefineError
 define_new cs name parent fs true = Err Taken
 define_new cs name parent fs false = define_under cs name (number_of cs parent) fs
 
+-- what defining a class gives: the list with the class at its end, or the first refusal that fits
 abbrev pub define_class : List Class → List ℕ → List ℕ → List FieldDecl → Result (List Class) DefineError
 define_class cs name parent fs = define_new cs name parent fs (is_some (number_of cs name))
 
@@ -96,7 +100,7 @@ abbrev pub IsEarlier : ℕ → Option ℕ → Type 0
 IsEarlier k None = k ≡ 0
 IsEarlier k (Some p) = p < k
 
--- no field name of a layout occurs twice
+-- a field name of a layout occurs twice
 abbrev pub names_repeat : List Placed → Bool
 names_repeat [] = false
 names_repeat (p ∷ ps) = list_any (λ q. same_name q.name p.name) ps || names_repeat ps

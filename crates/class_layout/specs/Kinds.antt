@@ -13,6 +13,7 @@ kind_bytes Short = 2
 kind_bytes Int = 4
 kind_bytes Long = 8
 
+-- values of the kind are references
 abbrev pub is_ref : Kind → Bool
 is_ref Ref = true
 is_ref Boolean = false

@@ -18,6 +18,7 @@ rank_of Short = 3
 rank_of Boolean = 4
 rank_of Byte = 4
 
+-- a field belongs to the r-th group
 abbrev pub has_rank : ℕ → FieldDecl → Bool
 has_rank r f = nat_eq (rank_of f.kind) r
 

@@ -10,6 +10,7 @@ use Rattle.class_layout.specs.ClassList.{Class, layout_of, superclass_layout, Is
 abbrev pub class_of : List ℕ × Row → Class
 class_of e = record { name = e.0; parent = e.1.parent; fields = e.1.fields.items }
 
+-- the classes that the map's entries stand for
 abbrev pub classes_of : List (List ℕ × Row) → List Class
 classes_of es = map class_of es
 

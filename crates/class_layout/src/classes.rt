@@ -31,6 +31,7 @@ pub enum DefineError {
     Limit,
     /// A field name occurs twice, or in a superclass.
     FieldTaken,
+    /// There is no memory for the class.
     OutOfMemory,
 }
 
@@ -105,6 +106,7 @@ impl Classes {
         fields: &[FieldDecl],
     ) -> Result<u32, DefineError>
         requires { length fields.now ≤ 4096 }
+        ensures made { IfOk result (λ class. (class + 1 ≡ length self.new) × (define_class self.old name parent.now fields.now ≡ Ok self.new)) }
         ensures refused { IfErr (define_class self.old name parent.now fields.now) (λ e. result ≡ Err e) }
         ensures defined { IfOk (define_class self.old name parent.now fields.now) (λ cs.
             MatchResult result (λ class. (class ≡ length self.old) × (self.new ≡ cs)) (λ e. e ≡ DefineError.OutOfMemory)) }
@@ -289,6 +291,7 @@ fn repeats(fields: &[FieldDecl]) -> bool
     false
 }
 
+// Whether one of the fields has the name.
 fn declares(fields: &[FieldDecl], name: &Name) -> bool
     ensures { result ≡ declares fields.now name.now }
 {

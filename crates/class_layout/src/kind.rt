@@ -7,12 +7,19 @@ use crate::Name;
 /// What a field or an element holds.
 #[derive(Clone, Copy, Debug, PartialEq, Eq)]
 pub enum Kind {
+    /// An object or null, in 4 bytes.
     Ref,
+    /// 0 or 1, in 1 byte.
     Boolean,
+    /// -128 to 127, in 1 byte.
     Byte,
+    /// 0 to 65,535, in 2 bytes.
     Char,
+    /// -32,768 to 32,767, in 2 bytes.
     Short,
+    /// -2^31 to 2^31 - 1, in 4 bytes.
     Int,
+    /// -2^63 to 2^63 - 1, in 8 bytes.
     Long,
 }
 
@@ -66,19 +73,22 @@ pub struct FieldDecl {
     pub kind: Kind,
 }
 
-/// A field's place: its offset in bytes from the start of the object, and whether it is weak.
+/// A field's place in an object.
 #[derive(Clone, Copy, Debug, PartialEq, Eq)]
 pub struct FieldAt {
     pub kind: Kind,
+    /// Bytes from the start of the object.
     pub offset: u32,
+    /// Whether a collection ignores the field when it looks for what is reached.
     pub weak: bool,
 }
 
-/// What a line stores: a number, null, or what a root holds.
+/// What is stored into a field or an element.
 #[derive(Clone, Copy, Debug)]
 pub enum Value {
     Number(i64),
     Null,
+    /// What the root of this name holds.
     Root(Name),
 }
 

@@ -14,7 +14,7 @@ pub const NAME_BYTES: usize = 128;
 #[derive(Clone, Copy, Debug)]
 pub struct Name {
     // zero from `len` on, so that equal names are equal in memory
-    bytes: [u8; 128],
+    bytes: [u8; NAME_BYTES],
     len: u8,
 }
 

@@ -5,6 +5,9 @@ ghost use Rattle.class_layout.specs.Placing.{has_rank, ArePlaced};
 
 use crate::FieldDecl;
 
+// A field takes at most 15 bytes, 7 of them as padding, so 4,096 fields take at most 61,440. Each group is bounded by that
+// on its own here, which still leaves room below 2^32.
+
 /// Gives each field its offset: references first, then values of 8, 4, 2 and 1 bytes. Returns where the last field ends.
 pub(crate) fn place_all(fields: &[FieldDecl], from: u32, offsets: &mut [u32]) -> u32
     requires long { length offsets.old ≡ length fields.now }

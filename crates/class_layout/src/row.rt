@@ -5,7 +5,7 @@ use crate::placing::place_all;
 use crate::{FieldAt, FieldDecl, Kind, Name};
 use std::alloc::{AllocError, Global};
 
-// An object begins with a class word and a lock word.
+// A class word and a lock word of 4 bytes each.
 const HEADER_BYTES: u32 = 8;
 
 /// What is kept of a class besides its name. All places are offsets in bytes from the start of an object.
