@@ -1,0 +1,10 @@
+pub mod Allocation
+pub mod Collection
+pub mod Examples
+pub mod Fork
+pub mod Graph
+pub mod Packing
+pub mod Paths
+pub mod Reach
+pub mod Sizes
+pub mod Values

@@ -1,0 +1,37 @@
+//! Laws above the definitions: what they say, in other words.
+ghost use Rattle.std.specs.Prelude.{◌≡◌, ◌⊎◌, ◌↔◌, ◌≤◌, ℕ, List, true};
+ghost use Rattle.heap_graph.specs.Collection.{collect, is_kept};
+ghost use Rattle.heap_graph.specs.Graph.{Graph, Object, is_immune};
+ghost use Rattle.heap_graph.specs.Packing.{places_from, used};
+ghost use Rattle.heap_graph.specs.Paths.{ArePacked, FitRegions, IsClosed, IsReached, LeadsTo};
+ghost use Rattle.heap_graph.specs.Reach.{Node, is_among, reached, reached_from};
+
+/// Reaching by rounds is a path of strong slots.
+pub fn reaching_is_a_path()
+    ensures { (vs : List Node) (from : List ℕ) (n : ℕ) → (is_among (reached_from vs from) n ≡ true) ↔ ((path : List ℕ) × LeadsTo vs from path n) }
+{}
+
+/// A collection keeps an object exactly where it is immune or a path reaches it.
+pub fn kept_is_immune_or_reached()
+    ensures { (g : Graph) (o : Object) → (is_kept g.sealed (reached g) o ≡ true) ↔ ((is_immune g.sealed o.place ≡ true) ⊎ IsReached g o.number) }
+{}
+
+/// A collection of a collection changes nothing.
+pub fn collecting_twice_is_once()
+    ensures { (g : Graph) → collect (collect g) ≡ collect g }
+{}
+
+/// A collection leaves nothing dangling.
+pub fn collecting_leaves_nothing_dangling()
+    ensures { (g : Graph) → IsClosed g → IsClosed (collect g) }
+{}
+
+/// What fits a region lies in one region, places rise, and nothing overlaps.
+pub fn places_are_packed()
+    ensures { (p : ℕ) (sizes : List ℕ) → FitRegions sizes → ArePacked p sizes (places_from p sizes) }
+{}
+
+/// A collection doesn't raise the regions used.
+pub fn collecting_uses_no_more()
+    ensures { (g : Graph) → used (collect g) ≤ used g }
+{}

@@ -1,0 +1,13 @@
+//! The plain object graph of a process: what the heap's machinery is proved to compute. It speaks of no frames,
+//! bitmaps, cards or regions in lists. What stands here as code is the names of things, and laws.
+#![tactic(auto)]
+
+mod examples;
+mod laws;
+mod names;
+
+pub use laws::{
+    collecting_leaves_nothing_dangling, collecting_twice_is_once, collecting_uses_no_more,
+    kept_is_immune_or_reached, places_are_packed, reaching_is_a_path,
+};
+pub use names::{Held, Place, Root, Shape, Slot, Stored};

@@ -1,0 +1,12 @@
+pub mod Alone
+pub mod FormedActs
+pub mod FormedAims
+pub mod FormedDefine
+pub mod FormedKept
+pub mod FormedMake
+pub mod FormedNumbers
+pub mod FormedSlots
+pub mod FormedStores
+pub mod Processes
+pub mod Steps
+pub mod Told

@@ -1,0 +1,7 @@
+use Rattle.heap_world.specs.Isolation.{first_told}
+use Rattle.heap_world.specs.World.{first_world}
+use Rattle.heap_world.proofs.Told.{first_kept, run_kept}
+use Rattle.heap_world.proofs.laws.processes_are_isolated.Goals as goal
+
+pub returns : goal.returns
+returns c budget number lines fine = run_kept (first_world budget number) (first_world budget number) first_told lines fine (first_kept budget number)

@@ -1,0 +1,11 @@
+pub mod Acts
+pub mod Cards
+pub mod Effect
+pub mod Examples
+pub mod Formed
+pub mod Isolation
+pub mod Pages
+pub mod Part
+pub mod Run
+pub mod Slots
+pub mod World

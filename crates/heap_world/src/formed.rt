@@ -1,0 +1,15 @@
+//! What every command keeps of a process's graph.
+ghost use Rattle.std.specs.Prelude.{◌≤◌, ℕ};
+ghost use Rattle.heap_graph.specs.Fork.{child_of};
+ghost use Rattle.heap_graph.specs.Graph.{Graph, first_graph};
+ghost use Rattle.heap_world.specs.Acts.{act};
+ghost use Rattle.heap_world.specs.Formed.{HasFewFields, IsFormed};
+ghost use Rattle.heap_world.specs.Part.{Part};
+ghost use Rattle.heap_world.specs.declared.command.Verb.{Verb};
+
+/// The graph of each process is formed: it is at first, every command keeps it, and a child's is its parent's.
+pub fn graphs_are_formed()
+    ensures first { (budget number : ℕ) → number ≤ 268435456 → IsFormed (first_graph budget number) }
+    ensures act { (p : Part) (v : Verb) → HasFewFields v → IsFormed p.graph → IsFormed (act p v).part.graph }
+    ensures child { (g : Graph) → IsFormed g → IsFormed (child_of g) }
+{}

@@ -1,0 +1,16 @@
+//! The world that a script builds: what can be asked of it, what it answers, and how it steps. This is what a machine
+//! is proved to do. It speaks of no frames in memory, bitmaps, mark stacks, bytes of cards or lists of regions.
+#![tactic(auto)]
+
+mod command;
+mod examples;
+mod formed;
+mod laws;
+mod names;
+mod reply;
+
+pub use command::{Command, FieldList, Verb};
+pub use formed::graphs_are_formed;
+pub use laws::{a_child_is_its_parent, a_step_leaves_other_processes, processes_are_isolated};
+pub use names::{Card, Label, PageName};
+pub use reply::{Refusal, Reply};
