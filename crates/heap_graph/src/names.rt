@@ -14,7 +14,7 @@ pub enum Place {
     Image(u32),
     /// In the zygote window, where a fork put it.
     Zygote(u32),
-    /// In a region, until the next collection or fork.
+    /// In a region, until a fork promotes it; a collection may move it.
     Young,
     /// In a large slot.
     Large,

@@ -335,7 +335,7 @@ page_counts p =
     reply.Pages (length (image_pages p.graph)) (count_by is_image_page p.touched) (length (zygote_pages p.graph)) (count_by is_zygote_page p.touched)
     (length (promoted_pages p.graph)) (count_by is_large_page p.touched)
 
--- a command of a process; forking and counting frames look beyond it, and stand with the world
+-- a command of a process. The tests of a fork for the seal and the name, and the count of frames, stand with the world
 abbrev pub act : Part → Verb → Effect
 act p (verb.Class name parent fields) = after_define p (define_class p.graph.classes name parent fields)
 act p (verb.New root class) = new_of_class p root (number_of p.graph.classes class)

@@ -123,7 +123,7 @@ abbrev pub fork_if : Bool → World → ℕ → Process → List ℕ → Stepped
 fork_if false w line q name = refused w refusal.NotSealed
 fork_if true w line q name = fork_named (is_taken w name) w line q name
 
--- three commands look beyond the process: a fork, the count of frames, and no other but the name's test
+-- two commands look beyond the process: a fork, and the count of frames
 abbrev pub step_process : World → ℕ → Process → Verb → Stepped
 step_process w line q (verb.Fork child) = fork_if q.part.graph.sealed w line q child
 step_process w line q verb.Frames = record { world = w; reply = reply.Frames (frame_count w); allowed = 16 }
