@@ -1,0 +1,3 @@
+pub mod CardSet
+pub use Rattle.bit_set.specs.Tests
+pub use Rattle.bit_set.specs.Bits

@@ -1,0 +1,13 @@
+pub mod ViewLemmas
+pub mod RoomLemmas
+pub mod ForkLemmas
+pub mod ChangeLemmas
+pub mod KeptLemmas
+pub mod TablesLemmas
+pub mod EntryLemmas
+pub mod PoolLemmas
+pub mod FrameLemmas
+pub mod PlaceLemmas
+pub mod ReadLemmas
+pub mod ShownLemmas
+pub mod SoundLemmas

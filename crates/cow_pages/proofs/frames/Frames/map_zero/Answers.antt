@@ -1,0 +1,34 @@
+use Rattle.cow_pages.proofs.SoundLemmas.{sound}
+use Rattle.cow_pages.proofs.RoomLemmas.{on_ok_both}
+use Rattle.cow_pages.proofs.ViewLemmas.{OthersSeen-page, MapsPage-zeros}
+use Rattle.cow_pages.proofs.frames.Frames.map_zero.Goals as goal
+
+pub map_zero-requires : goal.map_zero-requires
+map_zero-requires c = record { kept = c.self.invariant; live = rw (← c.self.view_is) at c.requires.live; window = c.requires.window; unmapped = rw (← c.self.view_is) at c.requires.unmapped }
+
+pub invariant_of-self : goal.invariant_of-self
+invariant_of-self c = c.map_zero.ensures.kept
+
+pub returns-clause-zeros : goal.returns-clause-zeros
+returns-clause-zeros c = rw (← c.self.view_is) c.map_zero.ensures.zeros
+
+pub returns-clause-rest : goal.returns-clause-rest
+returns-clause-rest c = rw (← c.self.view_is) c.map_zero.ensures.rest
+
+pub returns-clause-view : goal.returns-clause-view
+returns-clause-view c = rw (← c.self.view_is) (on_ok_both _ (λ zeros rest. MapsPage-zeros _ _ _ _ zeros rest) c.map_zero.ensures.zeros c.map_zero.ensures.rest)
+
+pub returns-clause-others_seen : goal.returns-clause-others_seen
+returns-clause-others_seen c = rw (← c.self.view_is) (on_ok_both _ (λ zeros rest. OthersSeen-page _ _ _ _ rest) c.map_zero.ensures.zeros c.map_zero.ensures.rest)
+
+pub returns-clause-takes : goal.returns-clause-takes
+returns-clause-takes c = rw (← c.self.view_is) c.map_zero.ensures.takes
+
+pub returns-clause-succeeds : goal.returns-clause-succeeds
+returns-clause-succeeds c = rw (← c.self.view_is) c.map_zero.ensures.succeeds
+
+pub returns-clause-err : goal.returns-clause-err
+returns-clause-err c = rw (← c.self.view_is) c.map_zero.ensures.err
+
+pub returns-clause-sound : goal.returns-clause-sound
+returns-clause-sound c = sound _ c.map_zero.ensures.kept

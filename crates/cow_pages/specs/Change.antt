@@ -1,0 +1,77 @@
+-- What a call changes, and what stays as it was.
+use Rattle.std.specs.Prelude.{◌≡◌, ◌≢◌, ◌⊎◌, ℕ, ◌+◌, ◌≤◌, min, ◌^◌, ◌-◌, true, false, if◌then◌else◌, List, length, Option, Some, option_map, ◌++◌, take, drop, replicate}
+use Rattle.cow_pages.specs.Address.{page_of, offset_of, page_size, is_immune}
+use Rattle.cow_pages.specs.Memory.{Memory, Page, page_at, frame_at, is_live, HasOneSharer, IsShared, IsFree}
+
+-- this page may have changed: every other page of every table is as it was, with its bytes, flag and frame
+pub record ChangesPage (old new : Memory) (t p : ℕ) : Type 0 where
+  pub others : (u q : ℕ) → (u ≢ t) ⊎ (q ≢ p) → page_at new u q ≡ page_at old u q
+  pub live : (u : ℕ) → is_live new u ≡ is_live old u
+  pub reads : new.reads ≡ old.reads
+
+-- this table may have changed: every other table is as it was
+pub record ChangesTable (old new : Memory) (t : ℕ) : Type 0 where
+  pub others : (u q : ℕ) → u ≢ t → page_at new u q ≡ page_at old u q
+  pub live : (u : ℕ) → u ≢ t → is_live new u ≡ is_live old u
+  pub reads : new.reads ≡ old.reads
+
+-- as many frames as before, and as many of them free
+pub record KeepsRoom (old new : Memory) : Type 0 where
+  pub frames : new.frames ≡ old.frames
+  pub spare : new.spare ≡ old.spare
+
+-- at most one free frame was taken, or where there was none, at most one made
+pub record TakesFrame (old new : Memory) : Type 0 where
+  pub spare : old.spare ≤ new.spare + 1
+  pub had_spare : old.spare ≢ 0 → new.frames ≡ old.frames
+  pub frames : new.frames ≤ old.frames + 1
+
+-- no frame was made or lost, and no fewer are free
+pub record FreesFrames (old new : Memory) : Type 0 where
+  pub frames : new.frames ≡ old.frames
+  pub spare : old.spare ≤ new.spare
+
+-- the reads counted after a read at this address
+abbrev pub reads_after : ℕ → ℕ → ℕ
+reads_after reads at = if is_immune at then min (reads + 1) (2 ^ 64 - 1) else reads
+
+-- a page of zeros that is not written
+abbrev pub zero_page : ℕ → Page
+zero_page frame = record { bytes = replicate page_size 0; written = false; frame = frame }
+
+-- the bytes with these put in from an offset on
+abbrev pub patched : List ℕ → ℕ → List ℕ → List ℕ
+patched bytes offset new = take offset bytes ++ new ++ drop (offset + length new) bytes
+
+-- a written page of these bytes
+abbrev pub written_page : List ℕ → ℕ → Page
+written_page bytes frame = record { bytes = bytes; written = true; frame = frame }
+
+-- the page without its flag
+abbrev pub settled : Option Page → Option Page
+settled page = option_map (λ (it : Page). record it { written = false }) page
+
+-- the page keeps its frame where that had one sharer, and else has one that no entry had
+abbrev pub KeepsOrCopies : Memory → ℕ → ℕ → ℕ → Type 0
+KeepsOrCopies old t p frame =
+    (HasOneSharer old t p × (frame_at old t p ≡ Some frame)) ⊎ (IsShared old t p × IsFree old frame)
+
+-- the bytes were written in one page of the table, whose flag is set
+pub record WritesPage (old new : Memory) (t at : ℕ) (bytes : List ℕ) : Type 0 where
+  pub was : Page
+  pub was_there : page_at old t (page_of at) ≡ Some was
+  pub frame : ℕ
+  pub frame_is : KeepsOrCopies old t (page_of at) frame
+  pub now : page_at new t (page_of at) ≡ Some (written_page (patched was.bytes (offset_of at) bytes) frame)
+  pub rest : ChangesPage old new t (page_of at)
+
+-- where the frame had one sharer none is taken, and else at most one
+pub record TakesOnCopy (old new : Memory) (t p : ℕ) : Type 0 where
+  pub copied : TakesFrame old new
+  pub in_place : HasOneSharer old t p → KeepsRoom old new
+
+-- the page has zeros, no flag, and a frame that no entry had
+pub record MapsZeros (old new : Memory) (t p : ℕ) : Type 0 where
+  pub frame : ℕ
+  pub frame_is : IsFree old frame
+  pub now : page_at new t p ≡ Some (zero_page frame)

@@ -1,0 +1,9 @@
+pub mod Address
+pub mod Memory
+pub mod View
+pub mod Change
+pub mod Counts
+pub mod Place
+pub mod Pool
+pub mod Tables
+pub mod Store

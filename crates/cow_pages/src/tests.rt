@@ -1,0 +1,29 @@
+use super::*;
+use std::test::Fail;
+
+const PAGE: PageNo = PageNo(0x20000);
+
+const AT: Addr = Addr(0x20000000);
+
+// What a table and its fork have before and after a write, and what stays once the first is dropped.
+#[test]
+fn forks(rt: HostRuntime) -> Result<(), Fail> {
+    let mut frames = Frames::new(rt.alloc());
+    let before = frames.immune_reads();
+    let t = frames.new_table()?;
+    frames.map_zero(t, PAGE)?;
+    frames.write_u32(t, AT, 7)?;
+    frames.settle(t);
+    let u = frames.fork_table(t)?;
+    assert_eq!(rt; frames.used(), 1);
+    frames.write_u32(u, AT, 9)?;
+    assert_eq!(rt; frames.used(), 2);
+    assert_eq!(rt; frames.read_u32(t, AT), 7);
+    assert_eq!(rt; frames.read_u32(u, AT), 9);
+    assert!(rt; !frames.written(t, PAGE));
+    assert!(rt; frames.written(u, PAGE));
+    frames.drop_table(t);
+    assert_eq!(rt; frames.used(), 1);
+    assert_eq!(rt; frames.immune_reads(), before + 2);
+    Ok(())
+}
