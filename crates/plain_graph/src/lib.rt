@@ -1,0 +1,9 @@
+//! The plain object graph of a process, as values: each call computes a definition of the graph and gives a new value.
+//! It keeps no index, no cache and no page.
+#![tactic(auto)]
+
+mod graph;
+mod object;
+
+pub use graph::Graph;
+pub use object::Object;
