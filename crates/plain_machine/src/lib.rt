@@ -1,0 +1,6 @@
+//! All processes of a script, executed by their definitions: no pages in memory, no bitmaps and no caches. The machine
+//! stands for its world by equality.
+#![tactic(auto)]
+
+mod cards;
+mod pages;
