@@ -48,6 +48,6 @@ collect g = record g { objects = collected_objects g }
 abbrev pub loose_count : Graph → ℕ
 loose_count g = count_by (λ o. not (is_immune g.sealed o.place)) g.objects
 
--- how many objects a collection removes
-abbrev pub freed_count : Graph → ℕ
-freed_count g = length g.objects - length (collect g).objects
+-- how many objects a collection removed, by the graph before it and the one after it
+abbrev pub freed_count : Graph → Graph → ℕ
+freed_count before after = length before.objects - length after.objects

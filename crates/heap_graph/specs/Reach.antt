@@ -28,9 +28,13 @@ starts g = held_targets (map (λ r. r.holds) g.roots) ++ flat_map (λ v. v.targe
 abbrev pub held_by : List Node → List ℕ → List ℕ
 held_by vs seen = flat_map (λ v. v.targets) (filter (λ v. is_among seen v.number) vs)
 
+-- the numbers that are among the starts or among what is held
+abbrev pub joined : List ℕ → List ℕ → List ℕ → List ℕ
+joined from held ns = filter (λ n. is_among from n || is_among held n) ns
+
 -- the objects that a start or a member holds
 abbrev pub next_round : List Node → List ℕ → List ℕ → List ℕ
-next_round vs from seen = filter (λ n. is_among from n || is_among (held_by vs seen) n) (map (λ v. v.number) vs)
+next_round vs from seen = joined from (held_by vs seen) (map (λ v. v.number) vs)
 
 -- the objects at the end of a path of at most so many members
 abbrev pub round : List Node → List ℕ → ℕ → List ℕ

@@ -15,7 +15,7 @@ use Rattle.heap_graph.specs.Values.{slot_of, held_of, value_at}
 use Rattle.heap_world.specs.declared.command.Verb.{Verb}
 use Rattle.heap_world.specs.declared.command.Verb.TheVariants as verb
 use Rattle.heap_world.specs.declared.reply.Refusal.{Refusal}
-use Rattle.heap_world.specs.Acts.{act, after_define, store_effect, with_slot, store, set_field, put_element, get_field, get_element, copy_root, load_slot, load_field, load_element, drop_held, show_root, seal_if, gc_if, fork_collected}
+use Rattle.heap_world.specs.Acts.{act, after_define, store_effect, with_slot, store, set_field, put_element, get_field, get_element, copy_root, load_slot, load_field, load_element, drop_held, show_root, seal_if, gc_if, fork_collected, fork_by}
 use Rattle.heap_world.specs.Effect.{Effect, effect_or}
 use Rattle.heap_world.specs.Formed.{IsFormed, HasSlot, HasFewFields}
 use Rattle.heap_world.specs.Part.{Part}
@@ -140,9 +140,13 @@ module _ (p : Part) (formed : IsFormed p.graph) where
   gc_keeps true = collect_formed g formed
   gc_keeps false = formed
 
-  fork_keeps : (b : Bool) → Keeps (fork_collected b p (collect g))
-  fork_keeps true = promoted_formed (collect g) (collect_formed g formed)
-  fork_keeps false = collect_formed g formed
+  fork_collected_keeps : (b : Bool) → Keeps (fork_collected b p (collect g))
+  fork_collected_keeps true = promoted_formed (collect g) (collect_formed g formed)
+  fork_collected_keeps false = collect_formed g formed
+
+  fork_keeps : (b : Bool) → Keeps (fork_by b p)
+  fork_keeps true = fork_collected_keeps (has_zygote_room (collect g))
+  fork_keeps false = formed
 
 -- each command
 pub act_keeps : (p : Part) (v : Verb) → HasFewFields v → IsFormed p.graph → IsFormed (act p v).part.graph
@@ -162,7 +166,7 @@ act_keeps p (verb.Drop root) few formed = effect_keeps p (drop_held p root) form
 act_keeps p (verb.Show root) few formed = effect_keeps p (show_root p root) formed (show_keeps p formed root)
 act_keeps p verb.Seal few formed = seal_keeps p formed p.graph.sealed
 act_keeps p verb.Gc few formed = gc_keeps p formed p.graph.sealed
-act_keeps p (verb.Fork child) few formed = fork_keeps p formed (has_zygote_room (collect p.graph))
+act_keeps p (verb.Fork child) few formed = fork_keeps p formed p.graph.sealed
 act_keeps p verb.Exit few formed = formed
 act_keeps p verb.Free few formed = formed
 act_keeps p verb.Pages few formed = formed

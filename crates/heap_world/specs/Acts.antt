@@ -286,18 +286,22 @@ abbrev pub seal_if : Bool → Part → Effect
 seal_if true p = refuses p refusal.Sealed
 seal_if false p = tells (record p { graph = record p.graph { sealed = true }; touched = []; stored = [] }) reply.Done
 
-abbrev pub gc_if : Bool → Part → Effect
-gc_if false p = refuses p refusal.NotSealed
-gc_if true p =
+-- the process goes on with the collected graph
+abbrev pub gc_to : Part → Graph → Effect
+gc_to p g =
     record {
-      part = with_collected p (collect p.graph);
-      reply = reply.Kept (loose_count (collect p.graph)) (freed_count p.graph);
+      part = with_collected p g;
+      reply = reply.Kept (loose_count g) (freed_count p.graph g);
       made = [];
       first = [];
       allowed = line_reads + collection_reads true p;
     }
 
--- fork, after the tests of the seal and of the name
+abbrev pub gc_if : Bool → Part → Effect
+gc_if false p = refuses p refusal.NotSealed
+gc_if true p = gc_to p (collect p.graph)
+
+-- fork, after the test of the name
 
 -- for each object that it promotes, a fork allows four reads per 4-byte word and 16
 abbrev pub promotion_reads : Graph → ℕ
@@ -325,8 +329,17 @@ fork_collected false p g =
       allowed = line_reads + 4096 * noted_count p;
     }
 
+-- the process promotes the objects of the collected graph, where they fit
+abbrev pub fork_to : Part → Graph → Effect
+fork_to p g = fork_collected (has_zygote_room g) p g
+
 abbrev pub fork_part : Part → Effect
-fork_part p = fork_collected (has_zygote_room (collect p.graph)) p (collect p.graph)
+fork_part p = fork_to p (collect p.graph)
+
+-- only a sealed process forks
+abbrev pub fork_by : Bool → Part → Effect
+fork_by false p = refuses p refusal.NotSealed
+fork_by true p = fork_part p
 
 -- pages
 
@@ -335,7 +348,7 @@ page_counts p =
     reply.Pages (length (image_pages p.graph)) (count_by is_image_page p.touched) (length (zygote_pages p.graph)) (count_by is_zygote_page p.touched)
     (length (promoted_pages p.graph)) (count_by is_large_page p.touched)
 
--- a command of a process. The tests of a fork for the seal and the name, and the count of frames, stand with the world
+-- a command of a process. The test of a fork for the name, and the count of frames, stand with the world
 abbrev pub act : Part → Verb → Effect
 act p (verb.Class name parent fields) = after_define p (define_class p.graph.classes name parent fields)
 act p (verb.New root class) = new_of_class p root (number_of p.graph.classes class)
@@ -352,7 +365,7 @@ act p (verb.Drop root) = effect_or p (drop_held p root)
 act p (verb.Show root) = effect_or p (show_root p root)
 act p verb.Seal = seal_if p.graph.sealed p
 act p verb.Gc = gc_if p.graph.sealed p
-act p (verb.Fork child) = fork_part p
+act p (verb.Fork child) = fork_by p.graph.sealed p
 act p verb.Exit = tells (record p { exited = true }) reply.Done
 act p verb.Free = tells p (reply.Regions (free p.graph))
 act p verb.Pages = tells p (page_counts p)

@@ -39,7 +39,7 @@ own_answer l r = answer_unless (is_frames l.command.verb) l.number r
 -- answers, without those that count frames
 abbrev pub own_answers : World → List Line → List Answer
 own_answers w [] = []
-own_answers w (l ∷ ls) = own_answer l (step_line w l).reply ++ own_answers (step_line w l).world ls
+own_answers w (l ∷ ls) = let s = step_line w l in own_answer l s.reply ++ own_answers s.world ls
 
 abbrev pub tell_if : Bool → Line → Reply → Told → Told
 tell_if true l r t = record { name = t.name; lines = t.lines ++ l ∷ []; answers = t.answers ++ own_answer l r }
@@ -71,7 +71,7 @@ told_by ts l r = with_forked (map (tell l r) ts) l l.command.verb r
 -- what each process was told by lines
 abbrev pub told_after : World → List Told → List Line → List Told
 told_after w ts [] = ts
-told_after w ts (l ∷ ls) = told_after (step_line w l).world (told_by ts l (step_line w l).reply) ls
+told_after w ts (l ∷ ls) = let s = step_line w l in told_after s.world (told_by ts l s.reply) ls
 
 abbrev pub first_told : List Told
 first_told = record { name = codes "zygote"; lines = []; answers = [] } ∷ []

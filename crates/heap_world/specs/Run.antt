@@ -20,7 +20,7 @@ step_line w l = step w l.number l.command
 -- the answers to lines
 abbrev pub answers : World → List Line → List Answer
 answers w [] = []
-answers w (l ∷ ls) = record { line = l.number; reply = (step_line w l).reply } ∷ answers (step_line w l).world ls
+answers w (l ∷ ls) = let s = step_line w l in record { line = l.number; reply = s.reply } ∷ answers s.world ls
 
 -- the world after lines
 abbrev pub world_after : World → List Line → World
@@ -30,4 +30,4 @@ world_after w (l ∷ ls) = world_after (step_line w l).world ls
 -- the reads of the image and zygote windows that lines allow
 abbrev pub allowance : World → List Line → ℕ
 allowance w [] = 0
-allowance w (l ∷ ls) = (step_line w l).allowed + allowance (step_line w l).world ls
+allowance w (l ∷ ls) = let s = step_line w l in s.allowed + allowance s.world ls
