@@ -4,7 +4,9 @@
 
 mod graph;
 mod object;
+mod roots;
 mod sizes;
+mod values;
 
 pub use graph::Graph;
 pub use object::Object;
