@@ -61,14 +61,14 @@ module _ (g : Graph) (root : List ℕ) (shape : Shape) (slots : List Stored) (ro
   is_made = made_by g.sealed
 
 -- what is left after the making
-after_make_keeps : (p : Part) (root : List ℕ) (a : Allocated) → IsMade p.graph root a → IsFormed p.graph → Keeps (after_make p root a)
-after_make_keeps p root (allocated.Made h collected) m formed = by collected
+after_make_keeps : (p : Part) (root : List ℕ) (shape : Shape) (a : Allocated) → IsMade p.graph root a → IsFormed p.graph → Keeps (after_make p root shape a)
+after_make_keeps p root shape (allocated.Made h collected) m formed = by collected
   where
     by : (b : Bool) → IsFormed (part_after b p (root_written h root p.graph.next)).graph
     by true = m
     by false = m
-after_make_keeps p root (allocated.ImageFull fill size) m formed = formed
-after_make_keeps p root (allocated.HeapFull h free needed) m formed = m
+after_make_keeps p root shape (allocated.ImageFull fill size) m formed = formed
+after_make_keeps p root shape (allocated.HeapFull h free needed) m formed = m
 
 module _ (p : Part) (root : List ℕ) (formed : IsFormed p.graph) where
   -- an object with slots
@@ -78,7 +78,7 @@ module _ (p : Part) (root : List ℕ) (formed : IsFormed p.graph) where
     where
       by : (b : Bool) → nat_le 268435456 p.graph.next ≡ b → Keeps (make_numbered b p root shape slots)
       by true e = formed
-      by false e = after_make_keeps p root (make p.graph shape slots) (is_made p.graph root shape slots (leb-false 268435456 p.graph.next e) is are aims still formed) formed
+      by false e = after_make_keeps p root shape (make p.graph shape slots) (is_made p.graph root shape slots (leb-false 268435456 p.graph.next e) is are aims still formed) formed
 
   -- a shape that is not too large
   pub shape_keeps : (shape : Shape) → (is_too_large p.graph.classes shape ≡ false → IsShape p.graph.classes shape) → Keeps (make_shape p root shape)

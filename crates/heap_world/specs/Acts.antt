@@ -16,8 +16,6 @@ use Rattle.heap_world.specs.declared.reply.Refusal.{Refusal}
 use Rattle.heap_world.specs.declared.reply.Refusal.TheVariants as refusal
 use Rattle.heap_graph.specs.declared.names.Shape.{Shape}
 use Rattle.heap_graph.specs.declared.names.Shape.TheVariants.{Instance, Array}
-use Rattle.heap_graph.specs.declared.names.Place.{Place}
-use Rattle.heap_graph.specs.declared.names.Place.TheVariants as place
 use Rattle.heap_graph.specs.declared.names.Slot.{Slot}
 use Rattle.heap_graph.specs.declared.names.Slot.TheVariants as slot
 use Rattle.heap_graph.specs.declared.names.Held.{Held}
@@ -29,11 +27,11 @@ use Rattle.heap_graph.specs.Allocation as allocated
 use Rattle.heap_graph.specs.Collection.{collect, loose_count, freed_count}
 use Rattle.heap_graph.specs.Fork.{promotion_start, promotion_bytes, has_zygote_room, promoted}
 use Rattle.heap_graph.specs.Packing.{free, young_objects}
-use Rattle.heap_graph.specs.Sizes.{page_bytes, parts_for, is_too_large}
+use Rattle.heap_graph.specs.Sizes.{page_bytes, parts_for, is_large, is_too_large, size_in, unrounded}
 use Rattle.heap_graph.specs.Values.{slot_of, held_of, value_at, with_stored}
 use Rattle.heap_world.specs.declared.names.PageName.{PageName}
-use Rattle.heap_world.specs.declared.names.PageName.TheVariants.{Image, Zygote}
-use Rattle.heap_world.specs.Pages.{count_from, large_pages, image_pages, zygote_pages, promoted_pages, page_in, is_touched, is_image_page, is_zygote_page, is_large_page}
+use Rattle.heap_world.specs.declared.names.PageName.TheVariants.{Image, Zygote, Large}
+use Rattle.heap_world.specs.Pages.{count_from, image_pages, zygote_pages, promoted_pages, page_in, is_touched, is_image_page, is_zygote_page, is_large_page}
 use Rattle.heap_world.specs.Slots.{◌>>=◌, slot_named, slot_indexed, held_by_root, object_held, named_by, stored_value, only_reference}
 use Rattle.heap_world.specs.declared.names.Card.{Card}
 use Rattle.heap_world.specs.Cards.{cards_in, add_cards}
@@ -55,18 +53,21 @@ after_define p (Err why) = refuses p (define_refusal why)
 
 -- new, array, weak
 
--- the pages that a new object makes: those of the image that its bytes are the first to reach, or those of a large slot
-abbrev pub pages_of_new : Graph → Graph → Object → Place → List PageName
-pages_of_new old g o (place.Image spot) =
-    map Image (count_from (parts_for page_bytes (image_fill old)) (parts_for page_bytes (image_fill g) - parts_for page_bytes (image_fill old)))
-pages_of_new old g o (place.Zygote spot) = []
-pages_of_new old g o place.Young = []
-pages_of_new old g o place.Large = large_pages g.classes o
-pages_of_new old g o place.Promoted = []
+-- the pages of the image that bytes behind so many others are the first to reach
+abbrev pub image_pages_behind : ℕ → ℕ → List PageName
+image_pages_behind fill bytes =
+    map Image (count_from (parts_for page_bytes fill) (parts_for page_bytes (fill + bytes) - parts_for page_bytes fill))
 
-abbrev pub pages_if_made : Graph → Graph → Option Object → List PageName
-pages_if_made old g None = []
-pages_if_made old g (Some o) = pages_of_new old g o o.place
+-- the pages of the next object's large slot, where it is large
+abbrev pub slot_pages_if : Bool → Graph → Shape → List PageName
+slot_pages_if true g shape = map (Large g.next) (count_from 0 (parts_for page_bytes (unrounded g.classes shape)))
+slot_pages_if false g shape = []
+
+-- the pages that the next object makes: before the seal those of the image that it is the first to reach, later those of
+-- a large slot
+abbrev pub pages_of_new : Bool → Graph → Shape → List PageName
+pages_of_new false g shape = image_pages_behind (image_fill g) (size_in g.classes shape)
+pages_of_new true g shape = slot_pages_if (is_large g.classes shape) g shape
 
 -- the last step of making an object: the root is written
 abbrev pub root_written : Graph → List ℕ → ℕ → Graph
@@ -81,17 +82,17 @@ abbrev pub part_after : Bool → Part → Graph → Part
 part_after true p g = with_collected p g
 part_after false p g = record p { graph = g }
 
-abbrev pub after_make : Part → List ℕ → Allocated → Effect
-after_make p root (allocated.Made g collected) =
+abbrev pub after_make : Part → List ℕ → Shape → Allocated → Effect
+after_make p root shape (allocated.Made g collected) =
     record {
       part = part_after collected p (root_written g root p.graph.next);
       reply = reply.Made p.graph.next collected;
-      made = pages_if_made p.graph g (object_at g p.graph.next);
+      made = pages_of_new p.graph.sealed p.graph shape;
       first = [];
       allowed = line_reads + collection_reads collected p;
     }
-after_make p root (allocated.ImageFull fill size) = refuses p (refusal.ImageFull fill size)
-after_make p root (allocated.HeapFull g free needed) =
+after_make p root shape (allocated.ImageFull fill size) = refuses p (refusal.ImageFull fill size)
+after_make p root shape (allocated.HeapFull g free needed) =
     record {
       part = with_collected p g;
       reply = reply.Refused (refusal.HeapFull free needed);
@@ -103,7 +104,7 @@ after_make p root (allocated.HeapFull g free needed) =
 -- the numbers end at 268,435,455
 abbrev pub make_numbered : Bool → Part → List ℕ → Shape → List Stored → Effect
 make_numbered true p root shape slots = refuses p refusal.NumberLimit
-make_numbered false p root shape slots = after_make p root (make p.graph shape slots)
+make_numbered false p root shape slots = after_make p root shape (make p.graph shape slots)
 
 abbrev pub make_slots : Part → List ℕ → Shape → List Stored → Effect
 make_slots p root shape slots = make_numbered (nat_le 268435456 p.graph.next) p root shape slots

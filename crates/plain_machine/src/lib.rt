@@ -4,3 +4,4 @@
 
 mod cards;
 mod pages;
+mod part;
