@@ -4,6 +4,7 @@
 
 mod graph;
 mod object;
+mod reach;
 
 pub use graph::Graph;
 pub use object::Object;
