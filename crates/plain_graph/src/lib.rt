@@ -2,6 +2,7 @@
 //! It keeps no index, no cache and no page.
 #![tactic(auto)]
 
+mod collection;
 mod graph;
 mod object;
 mod reach;
