@@ -15,16 +15,7 @@ impl Graph {
     {
         let seen = self.reached()?;
         let kept = self.kept_numbers(&seen)?;
-        Ok(Graph {
-            alloc: self.alloc,
-            classes: self.classes.copied()?,
-            next: self.next,
-            budget: self.budget,
-            sealed: self.sealed,
-            dumps: self.dumps,
-            roots: self.roots.clone()?,
-            objects: self.cleared_all(&seen, &kept)?,
-        })
+        self.with_objects(self.cleared_all(&seen, &kept)?)
     }
 
     /// How many objects aren't immune.

@@ -1,10 +1,13 @@
-ghost use Rattle.std.specs.Prelude.{◌≡◌, ◌≤◌, IfOk};
-ghost use Rattle.heap_graph.specs.Graph.{first_graph, image_fill, object_at};
-ghost use Rattle.heap_world.specs.Formed.{IsFormed};
+ghost use Rattle.std.specs.Prelude.{◌≡◌, ◌≤◌, ◌⊎◌, true, List, length, Ok, Err, IfOk, IfErr};
+ghost use Rattle.std.specs.Option.{option_copied};
+ghost use Rattle.class_layout.specs.ClassList.{Class, define_class};
+ghost use Rattle.heap_graph.specs.Fork.{child_of};
+ghost use Rattle.heap_graph.specs.Graph.{first_graph, object_at};
+ghost use Rattle.heap_world.specs.Acts.{stored_in, with_slot};
 
 use crate::Object;
-use class_layout::Classes;
-use heap_graph::Root;
+use class_layout::{Classes, DefineError, FieldDecl, Name};
+use heap_graph::{Root, Stored};
 use std::alloc::{AllocError, Global};
 use std::marker::Model;
 
@@ -47,9 +50,113 @@ impl Graph {
         })
     }
 
+    /// The classes.
+    pub fn classes(&self) -> &Classes
+        ensures { result.now ≡ self.now.classes }
+    {
+        &self.classes
+    }
+
+    /// The allocation number of the next object.
+    pub fn next(&self) -> u32
+        ensures { result ≡ self.now.next }
+    {
+        self.next
+    }
+
+    /// How many regions the process may use.
+    pub fn budget(&self) -> u32
+        ensures { result ≡ self.now.budget }
+    {
+        self.budget
+    }
+
+    /// Whether the image is sealed.
+    pub fn is_sealed(&self) -> bool
+        ensures { result ≡ self.now.sealed }
+    {
+        self.sealed
+    }
+
+    /// The roots, in the order in which they were first written.
+    pub fn roots(&self) -> &[Root]
+        ensures { result.now ≡ self.now.roots }
+    {
+        &self.roots
+    }
+
+    /// The objects, by rising number.
+    pub fn objects(&self) -> &[Object]
+        ensures { result.now ≡ self.now.objects }
+    {
+        &self.objects
+    }
+
+    /// The object of a number, or `None` where no object has it.
+    pub fn object_at(&self, number: u32) -> Option<&Object>
+        ensures { option_copied result ≡ object_at self.now number }
+    {
+        self.objects.iter().find(|o| o.number == number)
+    }
+
     /// The same graph again.
     pub fn copied(&self) -> Result<Graph, AllocError>
         ensures { IfOk result (λ g. g ≡ self.now) }
+    {
+        self.with_objects(copied_objects(self.alloc, &self.objects)?)
+    }
+
+    /// The graph with a slot of the object of a number stored to.
+    pub fn with_slot(&self, number: u32, new: &Stored) -> Result<Graph, AllocError>
+        ensures { IfOk result (λ g. g ≡ with_slot self.now number new.now) }
+    {
+        let mut objects = Vec::with_capacity(self.alloc, self.objects.len())?;
+        for o in &self.objects {
+            objects.push(o.stored_in(number, new)?)?;
+        }
+        self.with_objects(objects)
+    }
+
+    /// The graph with its image sealed.
+    pub fn with_seal(&self) -> Result<Graph, AllocError>
+        ensures { IfOk result (λ g. g ≡ record self.now { sealed = true }) }
+    {
+        let mut graph = self.copied()?;
+        graph.sealed = true;
+        Ok(graph)
+    }
+
+    /// The graph with one more class, at the end of the list, below the class of the name `parent`.
+    ///
+    /// It gives `OutOfMemory`, or the first refusal that fits, in the order `Taken`, `NoSuper`, `Limit`, `FieldTaken`.
+    pub fn with_class(
+        &self,
+        name: Name,
+        parent: &Name,
+        fields: &[FieldDecl],
+    ) -> Result<Graph, DefineError>
+        requires { length fields.now ≤ 4096 }
+        ensures made { IfOk result (λ g. (cs : List Class) × (define_class self.now.classes name parent.now fields.now ≡ Ok cs) × (g ≡ record self.now { classes = cs })) }
+        ensures refused { IfErr result (λ e. (e ≡ DefineError.OutOfMemory) ⊎ (define_class self.now.classes name parent.now fields.now ≡ Err e)) }
+        ensures err { IfErr (define_class self.now.classes name parent.now fields.now) (λ e. (result ≡ Err DefineError.OutOfMemory) ⊎ (result ≡ Err e)) }
+    {
+        let mut graph = self.copied()?;
+        graph.classes.define(name, parent, fields)?;
+        Ok(graph)
+    }
+
+    /// The graph of a child that the process forks: it was never dumped.
+    pub fn never_dumped(&self) -> Result<Graph, AllocError>
+        ensures { IfOk result (λ g. g ≡ child_of self.now) }
+    {
+        let mut graph = self.copied()?;
+        graph.dumps = 0;
+        Ok(graph)
+    }
+
+    /// The graph with other objects.
+    pub(crate) fn with_objects(&self, objects: Vec<Object>) -> Result<Graph, AllocError>
+        ensures { IfOk result (λ g. g ≡ record self.now { objects = objects.items }) }
     {
         Ok(Graph {
             alloc: self.alloc,
@@ -59,7 +166,7 @@ impl Graph {
             sealed: self.sealed,
             dumps: self.dumps,
             roots: self.roots.clone()?,
-            objects: copied_objects(self.alloc, &self.objects)?,
+            objects,
         })
     }
 }

@@ -6,6 +6,10 @@ mod collection;
 mod graph;
 mod object;
 mod reach;
+mod roots;
+mod sizes;
+mod values;
 
 pub use graph::Graph;
 pub use object::Object;
+pub use sizes::{PAGE_BYTES, REGION_BYTES, is_large, is_ref, is_too_large, size_in, unrounded};

@@ -1,12 +1,11 @@
 //! Which objects are reached, round by round.
 ghost use Rattle.std.specs.Prelude.{◌≡◌, ◌||◌, ◌++◌, [], IfOk, OnOk, IsTrue, ◌↔◌, filter, map};
-ghost use Rattle.heap_graph.specs.Graph as graphs;
 ghost use Rattle.heap_graph.specs.Reach as reach;
 ghost use Rattle.heap_graph.specs.Values.{slot_of, strong_slots, targets, with_target};
 ghost use Rattle.plain_graph.specs.Reaching.{roots_held};
 
 use crate::{Graph, Object};
-use heap_graph::{Held, Place, Root, Slot, Stored};
+use heap_graph::{Held, Root, Slot, Stored};
 use std::alloc::{AllocError, Global};
 use std::marker::Model;
 
@@ -27,17 +26,6 @@ impl Model for Node {
 }
 
 impl Object {
-    /// Whether a collection never removes the object, in a process whose image is sealed or not.
-    pub fn is_immune(&self, sealed: bool) -> bool
-        ensures { result ≡ graphs.is_immune sealed self.now.place }
-    {
-        match self.place {
-            Place::Image(_) => sealed,
-            Place::Zygote(_) | Place::Promoted => true,
-            Place::Young | Place::Large => false,
-        }
-    }
-
     fn node(&self, alloc: Global, sealed: bool) -> Result<Node, AllocError>
         ensures { IfOk result (λ v. v ≡ reach.node_of sealed self.now) }
     {
