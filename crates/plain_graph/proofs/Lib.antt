@@ -1,2 +1,4 @@
 pub mod FirstPlaces
+pub mod Reaching
+pub mod RootLists
 pub mod Stores

@@ -2,8 +2,10 @@
 //! It keeps no index, no cache and no page.
 #![tactic(auto)]
 
+mod collection;
 mod graph;
 mod object;
+mod reach;
 mod roots;
 mod sizes;
 mod values;

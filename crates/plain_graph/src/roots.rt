@@ -1,7 +1,8 @@
 ghost use Rattle.std.specs.Prelude.{◌≡◌, IfOk};
 ghost use Rattle.std.specs.List.{position};
+ghost use Rattle.std.specs.Option.{option_copied};
 ghost use Rattle.class_layout.specs.Names.{same_name};
-ghost use Rattle.heap_graph.specs.Graph.{drop_root, write_root};
+ghost use Rattle.heap_graph.specs.Graph.{drop_root, root_at, write_root};
 ghost use Rattle.heap_world.specs.Slots.{held_by_root};
 
 use crate::Graph;
@@ -9,14 +10,14 @@ use crate::graph::copied_objects;
 use class_layout::Name;
 use heap_graph::{Held, Root};
 use heap_world::Refusal;
-use std::alloc::AllocError;
+use std::alloc::{AllocError, Global};
 
 impl Graph {
     /// What a root holds. `NoRoot` where no root has the name.
     pub fn held_by_root(&self, name: &Name) -> Result<Held, Refusal>
         ensures { result ≡ held_by_root self.now name.now }
     {
-        match self.roots.iter().find(|r| r.name == *name) {
+        match root_at(&self.roots, name) {
             Some(root) => Ok(root.holds),
             None => Err(Refusal::NoRoot),
         }
@@ -26,12 +27,7 @@ impl Graph {
     pub fn with_root(&self, name: Name, holds: Held) -> Result<Graph, AllocError>
         ensures { IfOk result (λ g. g ≡ record self.now { roots = write_root self.now.roots name holds }) }
     {
-        let mut roots = self.roots.clone()?;
-        match index_of(&self.roots, &name) {
-            Some(i) => roots[i].holds = holds,
-            None => roots.push(Root { name, holds })?,
-        }
-        self.with_roots(roots)
+        self.with_roots(written(self.alloc, &self.roots, name, holds)?)
     }
 
     /// The graph without the root of a name.
@@ -57,6 +53,25 @@ impl Graph {
             objects: copied_objects(self.alloc, &self.objects)?,
         })
     }
+}
+
+// The root of a name.
+fn root_at<'a>(roots: &'a [Root], name: &Name) -> Option<&'a Root>
+    ensures { option_copied result ≡ root_at roots.now name.now }
+{
+    roots.iter().find(|r| r.name == *name)
+}
+
+#[tactic(auto, using(crate::proofs::RootLists::writes))]
+fn written(alloc: Global, roots: &[Root], name: Name, holds: Held) -> Result<Vec<Root>, AllocError>
+    ensures { IfOk result (λ v. v.items ≡ write_root roots.now name holds) }
+{
+    let mut copies = Vec::from_slice(alloc, roots)?;
+    match index_of(roots, &name) {
+        Some(i) => copies[i].holds = holds,
+        None => copies.push(Root { name, holds })?,
+    }
+    Ok(copies)
 }
 
 // Which of the roots has the name.
