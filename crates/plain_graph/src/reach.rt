@@ -139,7 +139,7 @@ fn held_by(alloc: Global, nodes: &[Node], seen: &[u32]) -> Result<Vec<u32>, Allo
 
 // The objects that a start or a held number names.
 fn joined(alloc: Global, nodes: &[Node], from: &[u32], held: &[u32]) -> Result<Vec<u32>, AllocError>
-    ensures { IfOk result (λ ns. ns.items ≡ filter (λ n. reach.is_among from.now n || reach.is_among held.now n) (map (λ v. v.number) nodes.now)) }
+    ensures { IfOk result (λ ns. ns.items ≡ reach.joined from.now held.now (map (λ v. v.number) nodes.now)) }
 {
     nodes
         .iter()

@@ -1,10 +1,16 @@
 //! Cards of the image and the zygote window.
-ghost use Rattle.std.specs.Prelude.{◌≡◌, ◌++◌, [], IfOk, OnOk};
-ghost use Rattle.heap_world.specs.Cards.{same_card, is_card_among, add_card, add_cards, cards_in};
+ghost use Rattle.std.specs.Prelude.{◌≡◌, ◌+◌, ◌-◌, ◌/◌, ◌++◌, [], IfOk, OnOk, option_to_list};
+ghost use Rattle.heap_graph.specs.Graph.{is_immune};
+ghost use Rattle.heap_graph.specs.Sizes.{card_bytes};
+ghost use Rattle.heap_world.specs.Cards.{same_card, is_card_among, add_card, add_cards, cards_in, held_cards, is_outward, object_cards, slot_cards};
 
-use heap_graph::Place;
+use heap_graph::{Place, Slot};
 use heap_world::Card;
+use plain_graph::{Graph, Object};
 use std::alloc::{AllocError, Global};
+
+/// The bytes of a card.
+const CARD_BYTES: u64 = 1024;
 
 /// The first address of the image.
 pub(crate) const IMAGE_BASE: u32 = 0x2000_0000;
@@ -36,4 +42,83 @@ fn add_card(card: Card, cards: &mut Vec<Card>) -> Result<(), AllocError>
         cards.insert(0, card)?;
     }
     Ok(())
+}
+
+/// The card of an offset in an object of the image or the zygote window.
+pub(crate) fn card_in(place: Place, offset: u32) -> Option<Card>
+    ensures { option_to_list result ≡ cards_in place offset }
+{
+    match place {
+        Place::Image(spot) => Some(Card::Image(card_of(spot, offset, IMAGE_BASE))),
+        Place::Zygote(spot) => Some(Card::Zygote(card_of(spot, offset, ZYGOTE_BASE))),
+        Place::Young | Place::Large | Place::Promoted => None,
+    }
+}
+
+fn card_of(spot: u32, offset: u32, base: u32) -> u32
+    ensures { result ≡ (spot + offset - base) / card_bytes }
+{
+    ((u64::from(spot) + u64::from(offset)).saturating_sub(u64::from(base)) / CARD_BYTES) as u32
+}
+
+/// A set of cards with more of them, the last one first.
+pub(crate) fn add_cards(cards: &[Card], set: &mut Vec<Card>) -> Result<(), AllocError>
+    ensures { OnOk result (set.new.items ≡ add_cards cards.now set.old.items) }
+{
+    let mut left = cards.len();
+    while left > 0 {
+        left -= 1;
+        add_card(cards[left], set)?;
+    }
+    Ok(())
+}
+
+/// Whether a slot holds an object that isn't immune.
+fn is_outward(graph: &Graph, slot: Slot) -> bool
+    ensures { result ≡ is_outward graph.now slot }
+{
+    match slot {
+        Slot::Object(number) => match graph.object_at(number) {
+            Some(o) => !o.is_immune(graph.is_sealed()),
+            None => false,
+        },
+        Slot::Number(_) | Slot::Null => false,
+    }
+}
+
+/// Adds the cards of an object's outward slots.
+fn push_cards(graph: &Graph, o: &Object, cards: &mut Vec<Card>) -> Result<(), AllocError>
+    ensures { OnOk result (cards.new.items ≡ cards.old.items ++ slot_cards graph.now o.now.place o.now.slots) }
+{
+    for s in o.slots() {
+        if is_outward(graph, s.value) {
+            if let Some(card) = card_in(o.place(), s.at.offset) {
+                cards.push(card)?;
+            }
+        }
+    }
+    Ok(())
+}
+
+/// Adds the cards of an object's outward slots, where it is immune.
+fn push_object(graph: &Graph, o: &Object, cards: &mut Vec<Card>) -> Result<(), AllocError>
+    ensures { OnOk result (cards.new.items ≡ cards.old.items ++ object_cards graph.now (is_immune graph.now.sealed o.now.place) o.now) }
+{
+    if o.is_immune(graph.is_sealed()) {
+        push_cards(graph, o, cards)?;
+    }
+    Ok(())
+}
+
+/// The cards in which an immune slot holds an object that isn't immune.
+pub(crate) fn held_cards(alloc: Global, graph: &Graph) -> Result<Vec<Card>, AllocError>
+    ensures { IfOk result (λ cards. cards.items ≡ held_cards graph.now) }
+{
+    let mut all = Vec::new(alloc);
+    for o in graph.objects() {
+        push_object(graph, o, &mut all)?;
+    }
+    let mut cards = Vec::new(alloc);
+    add_cards(&all, &mut cards)?;
+    Ok(cards)
 }

@@ -3,5 +3,6 @@
 #![tactic(auto)]
 
 mod cards;
+mod outcome;
 mod pages;
 mod part;
