@@ -1,1 +1,2 @@
+pub mod CardLists
 pub mod PageLists

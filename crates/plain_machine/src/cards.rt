@@ -2,9 +2,9 @@
 ghost use Rattle.std.specs.Prelude.{◌≡◌, ◌+◌, ◌-◌, ◌/◌, ◌++◌, [], IfOk, OnOk, option_to_list};
 ghost use Rattle.heap_graph.specs.Graph.{is_immune};
 ghost use Rattle.heap_graph.specs.Sizes.{card_bytes};
-ghost use Rattle.heap_world.specs.Cards.{same_card, is_card_among, add_card, add_cards, cards_in, held_cards, is_outward, object_cards, slot_cards};
+ghost use Rattle.heap_world.specs.Cards.{same_card, is_card_among, add_card, add_cards, cards_if, cards_in, held_cards, is_outward, object_cards, slot_cards};
 
-use heap_graph::{Place, Slot};
+use heap_graph::{Place, Slot, Stored};
 use heap_world::Card;
 use plain_graph::{Graph, Object};
 use std::alloc::{AllocError, Global};
@@ -86,16 +86,30 @@ fn is_outward(graph: &Graph, slot: Slot) -> bool
     }
 }
 
-/// Adds the cards of an object's outward slots.
-fn push_cards(graph: &Graph, o: &Object, cards: &mut Vec<Card>) -> Result<(), AllocError>
-    ensures { OnOk result (cards.new.items ≡ cards.old.items ++ slot_cards graph.now o.now.place o.now.slots) }
+/// Adds the card of a slot at a place, where the slot is outward.
+fn push_card(graph: &Graph, place: Place, s: &Stored, cards: &mut Vec<Card>) -> Result<(), AllocError>
+    ensures { OnOk result (cards.new.items ≡ cards.old.items ++ cards_if (is_outward graph.now s.now.value) place s.now.at.offset) }
 {
-    for s in o.slots() {
-        if is_outward(graph, s.value) {
-            if let Some(card) = card_in(o.place(), s.at.offset) {
-                cards.push(card)?;
-            }
+    if is_outward(graph, s.value) {
+        if let Some(card) = card_in(place, s.at.offset) {
+            cards.push(card)?;
         }
+    }
+    Ok(())
+}
+
+/// Adds the cards of the outward slots of an object at a place.
+#[tactic(auto, using(crate::proofs::CardLists::slot_cards_more))]
+fn push_cards(
+    graph: &Graph,
+    place: Place,
+    slots: &[Stored],
+    cards: &mut Vec<Card>,
+) -> Result<(), AllocError>
+    ensures { OnOk result (cards.new.items ≡ cards.old.items ++ slot_cards graph.now place slots.now) }
+{
+    for s in slots {
+        push_card(graph, place, s, cards)?;
     }
     Ok(())
 }
@@ -105,7 +119,7 @@ fn push_object(graph: &Graph, o: &Object, cards: &mut Vec<Card>) -> Result<(), A
     ensures { OnOk result (cards.new.items ≡ cards.old.items ++ object_cards graph.now (is_immune graph.now.sealed o.now.place) o.now) }
 {
     if o.is_immune(graph.is_sealed()) {
-        push_cards(graph, o, cards)?;
+        push_cards(graph, o.place(), o.slots(), cards)?;
     }
     Ok(())
 }
