@@ -1,3 +1,6 @@
 pub mod FirstPlaces
+pub mod FormedObjects
+pub mod Parts
+pub mod Prefixes
 pub mod RootLists
 pub mod Stores

@@ -2,8 +2,10 @@
 //! It keeps no index, no cache and no page.
 #![tactic(auto)]
 
+mod fills;
 mod graph;
 mod object;
+mod packing;
 mod roots;
 mod sizes;
 mod values;
