@@ -2,10 +2,12 @@
 //! It keeps no index, no cache and no page.
 #![tactic(auto)]
 
+mod collection;
 mod fills;
 mod graph;
 mod object;
 mod packing;
+mod reach;
 mod roots;
 mod sizes;
 mod values;

@@ -63,12 +63,7 @@ fn root_at<'a>(roots: &'a [Root], name: &Name) -> Option<&'a Root>
 }
 
 #[tactic(auto, using(crate::proofs::RootLists::writes))]
-fn written(
-    alloc: Global,
-    roots: &[Root],
-    name: Name,
-    holds: Held,
-) -> Result<Vec<Root>, AllocError>
+fn written(alloc: Global, roots: &[Root], name: Name, holds: Held) -> Result<Vec<Root>, AllocError>
     ensures { IfOk result (λ v. v.items ≡ write_root roots.now name holds) }
 {
     let mut copies = Vec::from_slice(alloc, roots)?;

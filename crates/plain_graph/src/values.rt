@@ -16,7 +16,11 @@ pub(crate) fn value_at(stored: &[Stored], at: &FieldAt) -> Slot
             return s.value;
         }
     }
-    if is_ref(at.kind) { Slot::Null } else { Slot::Number(0) }
+    if is_ref(at.kind) {
+        Slot::Null
+    } else {
+        Slot::Number(0)
+    }
 }
 
 #[tactic(auto, using(crate::proofs::Stores::stores))]
