@@ -1,2 +1,3 @@
+pub mod Allocated
 pub mod Reaching
 pub mod Shapes

@@ -99,7 +99,8 @@ fn strong_targets(alloc: Global, slots: &[Stored]) -> Result<Vec<u32>, AllocErro
 {
     let mut held = Vec::new(alloc);
     for s in slots {
-        if !s.at.weak {
+        let is_strong = !s.at.weak;
+        if is_strong {
             push_target(&mut held, s.value)?;
         }
     }
