@@ -8,8 +8,13 @@ pub mod FormedMake
 pub mod FormedNumbers
 pub mod FormedSlots
 pub mod FormedStores
+pub mod FormedValues
 pub mod LaidOut
 pub mod Placed
+pub mod PlacedFilter
+pub mod PlacedFork
+pub mod PlacedPush
+pub mod PlacedSame
 pub mod Processes
 pub mod Steps
 pub mod Told
