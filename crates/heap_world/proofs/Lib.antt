@@ -16,6 +16,7 @@ pub mod PlacedFork
 pub mod PlacedPush
 pub mod PlacedSame
 pub mod Processes
+pub mod Standing
 pub mod Steps
 pub mod Told
 pub mod Totals

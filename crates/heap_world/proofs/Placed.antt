@@ -40,7 +40,7 @@ zygote_top cs bytes [] = bytes
 zygote_top cs bytes (o ∷ os) = zygote_top cs (zygote_next cs bytes o o.place) os
 
 -- the last end is the greatest one
-top-max : (cs : List Class) (bytes : ℕ) (os : List Object) → FillZygote cs bytes os → zygote_top cs bytes os ≡ max bytes (greatest (map (λ o. zygote_end cs o o.place) os))
+pub top-max : (cs : List Class) (bytes : ℕ) (os : List Object) → FillZygote cs bytes os → zygote_top cs bytes os ≡ max bytes (greatest (map (λ o. zygote_end cs o o.place) os))
 top-max cs bytes [] h = omega arith
 top-max cs bytes (o ∷ os) h = by o.place h.0 (top-max cs (zygote_next cs bytes o o.place) os h.1)
   where

@@ -1,6 +1,6 @@
 -- What a collection keeps stays placed.
-use Rattle.std.proofs.Common.{◌≡◌, ℕ, ◌+◌, ◌≤◌, Bool, true, false, true≢false, cond, List, [], ◌∷◌, filter, refl, sym, ap, subst, ◌∙◌, arith}
-use Rattle.std.specs.List.{AllByRecursion}
+use Rattle.std.proofs.Common.{◌≡◌, ℕ, ◌+◌, ◌≤◌, Bool, true, false, true≢false, cond, List, [], ◌∷◌, ◌++◌, filter, refl, sym, ap, subst, ◌∙◌, arith}
+use Rattle.std.specs.List.{AllByRecursion, flat_map}
 use Rattle.class_layout.specs.ClassList.{Class}
 use Rattle.heap_graph.specs.declared.names.Place.{Place}
 use Rattle.heap_graph.specs.declared.names.Place.TheVariants as place
@@ -8,6 +8,7 @@ use Rattle.heap_graph.specs.Graph.{Object, image_size, is_immune}
 use Rattle.heap_graph.specs.Packing.{cost}
 use Rattle.heap_graph.specs.Sizes.{parts_for}
 use Rattle.heap_world.specs.Formed.{AreInTurn, FillImage, FillZygote, IsBehindImage, IsBehindZygote, SuitsShape, turn, zygote_next}
+use Rattle.heap_world.specs.Pages.{pages_if_promoted}
 use Rattle.heap_world.proofs.Placed.{IsPlaced, young_end, zygote_top}
 use Rattle.heap_world.proofs.Totals.{total, total-filter, total-filter_le}
 
@@ -81,6 +82,26 @@ module _ (cs : List Class) (keep : Object → Bool) (immune : (o : Object) → k
           → zygote_top cs bytes (cond b (o ∷ filter keep os) (filter keep os)) ≡ zygote_top cs (zygote_next cs bytes o o.place) os
       by true e rest = rest
       by false e rest = ap (λ n. zygote_top cs n (filter keep os)) (sym (no_zygote o bytes e)) ∙ rest
+
+  -- nor is it promoted
+  no_pages : (o : Object) → keep o ≡ false → pages_if_promoted cs o o.place ≡ []
+  no_pages o e = by o.place (immune o e)
+    where
+      by : (at : Place) → is_immune true at ≡ false → pages_if_promoted cs o at ≡ []
+      by (place.Image spot) e = refl
+      by (place.Zygote spot) e = refl
+      by place.Young e = refl
+      by place.Large e = refl
+      by place.Promoted e = absurd (true≢false e)
+
+  pub pages-filter : (os : List Object) → flat_map (λ o. pages_if_promoted cs o o.place) (filter keep os) ≡ flat_map (λ o. pages_if_promoted cs o o.place) os
+  pages-filter [] = refl
+  pages-filter (o ∷ os) = by (keep o) refl (pages-filter os)
+    where
+      by : (b : Bool) → keep o ≡ b → flat_map (λ o. pages_if_promoted cs o o.place) (filter keep os) ≡ flat_map (λ o. pages_if_promoted cs o o.place) os
+          → flat_map (λ o. pages_if_promoted cs o o.place) (cond b (o ∷ filter keep os) (filter keep os)) ≡ pages_if_promoted cs o o.place ++ flat_map (λ o. pages_if_promoted cs o o.place) os
+      by true e rest = ap (λ ps. pages_if_promoted cs o o.place ++ ps) rest
+      by false e rest = rest ∙ ap (λ ps. ps ++ flat_map (λ o. pages_if_promoted cs o o.place) os) (sym (no_pages o e))
 
   -- what is kept is placed, where its young objects end no later
   pub placed-filter : (budget : ℕ) (os : List Object) → parts_for 262144 (young_end cs 0 (filter keep os)) ≤ parts_for 262144 (young_end cs 0 os) → IsPlaced cs true budget os

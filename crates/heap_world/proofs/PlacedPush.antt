@@ -53,7 +53,7 @@ module _ (cs : List Class) where
   zygote-push bytes [] o h behind = (behind, tt)
   zygote-push bytes (x ∷ os) o h behind = (h.0, zygote-push (zygote_next cs bytes x x.place) os o h.1 behind)
 
-  top-push : (bytes : ℕ) (os : List Object) (o : Object) → zygote_top cs bytes (os ++ o ∷ []) ≡ zygote_next cs (zygote_top cs bytes os) o o.place
+  pub top-push : (bytes : ℕ) (os : List Object) (o : Object) → zygote_top cs bytes (os ++ o ∷ []) ≡ zygote_next cs (zygote_top cs bytes os) o o.place
   top-push bytes [] o = refl
   top-push bytes (x ∷ os) o = top-push (zygote_next cs bytes x x.place) os o
 

@@ -1,6 +1,6 @@
 -- Objects of the same places and sizes are placed the same.
 use Rattle.std.proofs.Common.{◌≡◌, ℕ, ◌+◌, ◌-◌, Bool, true, false, ◌&&◌, List, [], ◌∷◌, ◌++◌, map, nat_eq, nat_le, refl, sym, ap, subst, ◌∙◌, arith}
-use Rattle.std.specs.List.{AllByRecursion}
+use Rattle.std.specs.List.{AllByRecursion, flat_map}
 use Rattle.class_layout.specs.ClassList.{Class}
 use Rattle.class_layout.specs.Kinds.{next_multiple}
 use Rattle.class_layout.proofs.Layouts.{layout_of-push_old}
@@ -13,13 +13,16 @@ use Rattle.heap_graph.specs.Collection.{cleared}
 use Rattle.heap_graph.specs.Graph.{Object, image_size, size_of_object}
 use Rattle.heap_graph.specs.Packing.{after, cost}
 use Rattle.heap_graph.specs.Sizes.{is_large, is_primitive_array, parts_for, unrounded, zygote_base}
+use Rattle.heap_world.specs.declared.names.PageName.TheVariants.{Large}
 use Rattle.heap_world.specs.Acts.{stored_in, stored_in_if}
+use Rattle.heap_world.specs.Pages.{count_from, large_pages, pages_if_promoted}
 use Rattle.heap_world.specs.Formed.{AreInTurn, AreObjects, FillImage, FillZygote, IsBehindImage, IsBehindZygote, IsShape, SuitsShape, is_in_image, turn, zygote_next}
 use Rattle.heap_world.proofs.Placed.{IsPlaced, young_end, young_next, zygote_top}
 use Rattle.heap_world.proofs.Totals.{total}
 
 -- an object with one class list, and one with another, have the same place and size
 pub record IsSame (cs ds : List Class) (o x : Object) : Type 0 where
+  pub number : x.number ≡ o.number
   pub place : x.place ≡ o.place
   pub bytes : unrounded ds x.shape ≡ unrounded cs o.shape
   pub large : is_large ds x.shape ≡ is_large cs o.shape
@@ -75,6 +78,19 @@ module _ (cs ds : List Class) (o x : Object) (same : IsSame cs ds o x) where
       by place.Large = refl
       by place.Promoted = refl
 
+  pub pages-same : pages_if_promoted ds x x.place ≡ pages_if_promoted cs o o.place
+  pages-same = ap (pages_if_promoted ds x) same.place ∙ by o.place
+    where
+      large : large_pages ds x ≡ large_pages cs o
+      large = ap (λ n. map (Large n) (count_from 0 (parts_for 4096 (unrounded ds x.shape)))) same.number ∙ ap (λ u. map (Large o.number) (count_from 0 (parts_for 4096 u))) same.bytes
+
+      by : (at : Place) → pages_if_promoted ds x at ≡ pages_if_promoted cs o at
+      by (place.Image spot) = refl
+      by (place.Zygote spot) = refl
+      by place.Young = refl
+      by place.Large = refl
+      by place.Promoted = large
+
   suits-same : SuitsShape cs o o.place → SuitsShape ds x x.place
   suits-same h = subst (SuitsShape ds x) (sym same.place) (by o.place h)
     where
@@ -91,6 +107,13 @@ module _ (cs ds : List Class) where
   total-same f g each [] (x ∷ xs) same = absurd same
   total-same f g each (o ∷ os) [] same = absurd same
   total-same f g each (o ∷ os) (x ∷ xs) same = omega (arith, each o x same.0, total-same f g each os xs same.1)
+
+  pub all_pages-same : (os xs : List Object) → AreSame cs ds os xs → flat_map (λ x. pages_if_promoted ds x x.place) xs ≡ flat_map (λ o. pages_if_promoted cs o o.place) os
+  all_pages-same [] [] same = refl
+  all_pages-same [] (x ∷ xs) same = absurd same
+  all_pages-same (o ∷ os) [] same = absurd same
+  all_pages-same (o ∷ os) (x ∷ xs) same =
+      ap (λ ps. ps ++ flat_map (λ x. pages_if_promoted ds x x.place) xs) (pages-same cs ds o x same.0) ∙ ap (λ ps. pages_if_promoted cs o o.place ++ ps) (all_pages-same os xs same.1)
 
   in_image-same : (os xs : List Object) → AreSame cs ds os xs → AllByRecursion (λ o. is_in_image o.place ≡ true) os → AllByRecursion (λ o. is_in_image o.place ≡ true) xs
   in_image-same [] [] same h = tt
@@ -162,7 +185,7 @@ module _ (cs ds : List Class) where
 
 -- an object with other slots
 other_slots : (cs : List Class) (o : Object) (ss : List Stored) → IsSame cs cs o (record o { slots = ss })
-other_slots cs o ss = record { place = refl; bytes = refl; large = refl }
+other_slots cs o ss = record { number = refl; place = refl; bytes = refl; large = refl }
 
 -- after a store
 pub stored-same : (cs : List Class) (os : List Object) (n : ℕ) (new : Stored) → AreSame cs cs os (stored_in os n new)
@@ -170,13 +193,13 @@ stored-same cs [] n new = tt
 stored-same cs (o ∷ os) n new = (by (nat_eq o.number n), stored-same cs os n new)
   where
     by : (b : Bool) → IsSame cs cs o (stored_in_if b o new)
-    by true = record { place = refl; bytes = refl; large = refl }
-    by false = record { place = refl; bytes = refl; large = refl }
+    by true = record { number = refl; place = refl; bytes = refl; large = refl }
+    by false = record { number = refl; place = refl; bytes = refl; large = refl }
 
 -- after clearing
 pub cleared-same : (cs : List Class) (kept : List ℕ) (os : List Object) → AreSame cs cs os (map (cleared kept) os)
 cleared-same cs kept [] = tt
-cleared-same cs kept (o ∷ os) = (record { place = refl; bytes = refl; large = refl }, cleared-same cs kept os)
+cleared-same cs kept (o ∷ os) = (record { number = refl; place = refl; bytes = refl; large = refl }, cleared-same cs kept os)
 
 -- with more classes
 pub bytes-grown : (cs ds : List Class) (shape : Shape) → IsShape cs shape → unrounded (cs ++ ds) shape ≡ unrounded cs shape
@@ -187,4 +210,4 @@ pub grown-same : (cs ds : List Class) (os : List Object) → AreObjects cs os �
 grown-same cs ds [] h = tt
 grown-same cs ds (o ∷ os) h =
     let e = bytes-grown cs ds o.shape h.0 in
-    (record { place = refl; bytes = e; large = ap (λ n. is_primitive_array o.shape && nat_le 12288 n) e }, grown-same cs ds os h.2)
+    (record { number = refl; place = refl; bytes = e; large = ap (λ n. is_primitive_array o.shape && nat_le 12288 n) e }, grown-same cs ds os h.2)
