@@ -1,5 +1,5 @@
 -- Each command keeps a formed graph.
-use Rattle.std.proofs.Common.{◌≡◌, ℕ, Bool, true, false, List, Some, Result, Ok, Err, IfOk}
+use Rattle.std.proofs.Common.{◌≡◌, ℕ, Bool, true, false, List, Some, Result, Ok, Err, IfOk, refl}
 use Rattle.class_layout.specs.declared.classes.DefineError.{DefineError}
 use Rattle.class_layout.specs.declared.kind.FieldAt.{FieldAt}
 use Rattle.class_layout.specs.declared.kind.Value.{Value}
@@ -17,13 +17,14 @@ use Rattle.heap_world.specs.declared.command.Verb.TheVariants as verb
 use Rattle.heap_world.specs.declared.reply.Refusal.{Refusal}
 use Rattle.heap_world.specs.Acts.{act, after_define, store_effect, with_slot, store, set_field, put_element, get_field, get_element, copy_root, load_slot, load_field, load_element, drop_held, show_root, seal_if, gc_if, fork_collected, fork_by}
 use Rattle.heap_world.specs.Effect.{Effect, effect_or}
-use Rattle.heap_world.specs.Formed.{IsFormed, HasSlot, HasFewFields}
+use Rattle.heap_world.specs.Formed.{IsFormed, FitsKind, HasSlot, HasFewFields}
 use Rattle.heap_world.specs.Part.{Part}
 use Rattle.heap_world.specs.Slots.{◌>>=◌, slot_named, slot_indexed, held_by_root, object_held, named_by, stored_value, only_reference}
 use Rattle.heap_world.proofs.FormedAims.{Aims, RootsAim, closed_roots, closed_objects, roots_aim-drop}
 use Rattle.heap_world.proofs.FormedDefine.{IsGrown, define-grows}
 use Rattle.heap_world.proofs.FormedKept.{classes_formed, roots_formed, write_formed, sealed_formed, collect_formed, promoted_formed, store_formed}
 use Rattle.heap_world.proofs.FormedMake.{Keeps, shape_keeps, new_keeps, weak_keeps}
+use Rattle.heap_world.proofs.FormedValues.{both-ok, names-drop, stored-fits}
 use Rattle.heap_world.proofs.FormedStores.{next_step, held-aims, named-aims, stored-aims, loaded-aims, found-aims, object-found, named-slot, indexed-slot}
 
 -- a command that may be refused
@@ -66,8 +67,9 @@ module _ (p : Part) (formed : IsFormed p.graph) where
   store_keeps : (o : Object) (s : FieldAt) (v : Value) (named : Held) → IsFound o → HasSlot g.classes o.shape s → IsThere named
       → IfOk (stored_value s.kind v named >>= (λ new. Ok (store p o s new))) Keeps
   store_keeps o s v named found has there =
-      next_step (Aims ns) Keeps (stored_value s.kind v named) (λ new. Ok (store p o s new)) (stored-aims ns s.kind v named there) (λ new value.
-      by (is_immune g.sealed o.place) (with_slot g o.number (record { at = s; value = new })) (store_formed g o (record { at = s; value = new }) found has value formed))
+      next_step (λ x. Aims ns x × FitsKind s.kind x) Keeps (stored_value s.kind v named) (λ new. Ok (store p o s new))
+      (both-ok (Aims ns) (FitsKind s.kind) (stored_value s.kind v named) (stored-aims ns s.kind v named there) (stored-fits s.kind v named)) (λ new both.
+      by (is_immune g.sealed o.place) (with_slot g o.number (record { at = s; value = new })) (store_formed g o (record { at = s; value = new }) found has both.0 both.1 formed))
     where
       by : (b : Bool) (after : Graph) → IsFormed after → Keeps (store_effect b p after o s)
       by true after h = h
@@ -126,7 +128,7 @@ module _ (p : Part) (formed : IsFormed p.graph) where
   drop_keeps : (root : List ℕ) → IfOk (drop_held p root) Keeps
   drop_keeps root =
       next_step IsThere Keeps (held_by_root g root) _ (held-aims ns g root roots)
-      (λ h there. roots_formed g (drop_root g.roots root) (roots_aim-drop ns g.roots root roots) formed)
+      (λ h there. roots_formed g (drop_root g.roots root) (roots_aim-drop ns g.roots root roots) (names-drop g.roots root formed.root_names) formed)
 
   show_keeps : (root : List ℕ) → IfOk (show_root p root) Keeps
   show_keeps root = next_step IsThere Keeps (held_by_root g root) _ (held-aims ns g root roots) (λ h there. formed)
@@ -136,17 +138,17 @@ module _ (p : Part) (formed : IsFormed p.graph) where
   seal_keeps true = formed
   seal_keeps false = sealed_formed g formed
 
-  gc_keeps : (b : Bool) → Keeps (gc_if b p)
-  gc_keeps true = collect_formed g formed
-  gc_keeps false = formed
+  gc_keeps : (b : Bool) → g.sealed ≡ b → Keeps (gc_if b p)
+  gc_keeps true e = collect_formed g e formed
+  gc_keeps false e = formed
 
-  fork_collected_keeps : (b : Bool) → Keeps (fork_collected b p (collect g))
-  fork_collected_keeps true = promoted_formed (collect g) (collect_formed g formed)
-  fork_collected_keeps false = collect_formed g formed
+  fork_collected_keeps : g.sealed ≡ true → (b : Bool) → has_zygote_room (collect g) ≡ b → Keeps (fork_collected b p (collect g))
+  fork_collected_keeps sealed true e = promoted_formed (collect g) sealed e (collect_formed g sealed formed)
+  fork_collected_keeps sealed false e = collect_formed g sealed formed
 
-  fork_keeps : (b : Bool) → Keeps (fork_by b p)
-  fork_keeps true = fork_collected_keeps (has_zygote_room (collect g))
-  fork_keeps false = formed
+  fork_keeps : (b : Bool) → g.sealed ≡ b → Keeps (fork_by b p)
+  fork_keeps true e = fork_collected_keeps e (has_zygote_room (collect g)) refl
+  fork_keeps false e = formed
 
 -- each command
 pub act_keeps : (p : Part) (v : Verb) → HasFewFields v → IsFormed p.graph → IsFormed (act p v).part.graph
@@ -165,8 +167,8 @@ act_keeps p (verb.LoadAt to from index) few formed = effect_keeps p (load_elemen
 act_keeps p (verb.Drop root) few formed = effect_keeps p (drop_held p root) formed (drop_keeps p formed root)
 act_keeps p (verb.Show root) few formed = effect_keeps p (show_root p root) formed (show_keeps p formed root)
 act_keeps p verb.Seal few formed = seal_keeps p formed p.graph.sealed
-act_keeps p verb.Gc few formed = gc_keeps p formed p.graph.sealed
-act_keeps p (verb.Fork child) few formed = fork_keeps p formed p.graph.sealed
+act_keeps p verb.Gc few formed = gc_keeps p formed p.graph.sealed refl
+act_keeps p (verb.Fork child) few formed = fork_keeps p formed p.graph.sealed refl
 act_keeps p verb.Exit few formed = formed
 act_keeps p verb.Free few formed = formed
 act_keeps p verb.Pages few formed = formed

@@ -1,4 +1,5 @@
 pub mod Alone
+pub mod Bounds
 pub mod FormedActs
 pub mod FormedAims
 pub mod FormedDefine
@@ -7,6 +8,15 @@ pub mod FormedMake
 pub mod FormedNumbers
 pub mod FormedSlots
 pub mod FormedStores
+pub mod FormedValues
+pub mod LaidOut
+pub mod Placed
+pub mod PlacedFilter
+pub mod PlacedFork
+pub mod PlacedPush
+pub mod PlacedSame
 pub mod Processes
+pub mod Standing
 pub mod Steps
 pub mod Told
+pub mod Totals

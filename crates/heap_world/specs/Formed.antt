@@ -1,16 +1,23 @@
 -- What holds of the graph of each process, after every line.
-use Rattle.std.specs.Prelude.{◌≡◌, ℕ, ◌+◌, ◌*◌, ◌<◌, ◌≤◌, false, List, [], ◌∷◌, Some, length, nat_eq}
-use Rattle.std.specs.List.{list_any}
+use Rattle.std.specs.Prelude.{◌≡◌, ℕ, ◌+◌, ◌-◌, ◌*◌, ◌<◌, ◌≤◌, ◌⊎◌, Bool, true, false, List, [], ◌∷◌, Some, length, nat_eq}
+use Rattle.std.specs.List.{list_any, AllByRecursion, IsDistinct}
+use Rattle.class_layout.specs.declared.kind.Kind.{Kind}
 use Rattle.class_layout.specs.declared.kind.FieldAt.{FieldAt}
 use Rattle.class_layout.specs.ClassList.{Class, IsClassList, layout_of}
-use Rattle.class_layout.specs.Kinds.{first_element, kind_bytes}
+use Rattle.class_layout.specs.Kinds.{first_element, in_range, is_ref, kind_bytes, next_multiple}
 use Rattle.class_layout.specs.Layout.{field_named}
+use Rattle.class_layout.specs.Names.{same_name}
+use Rattle.heap_graph.specs.declared.names.Place.{Place}
+use Rattle.heap_graph.specs.declared.names.Place.TheVariants as place
 use Rattle.heap_graph.specs.declared.names.Shape.{Shape}
 use Rattle.heap_graph.specs.declared.names.Shape.TheVariants.{Instance, Array}
+use Rattle.heap_graph.specs.declared.names.Slot.{Slot}
+use Rattle.heap_graph.specs.declared.names.Slot.TheVariants as slot
 use Rattle.heap_graph.specs.declared.names.Stored.{Stored}
-use Rattle.heap_graph.specs.Graph.{Graph, Object}
+use Rattle.heap_graph.specs.Graph.{Graph, Object, image_fill, image_size, size_of_object, zygote_fill}
+use Rattle.heap_graph.specs.Packing.{costs, used}
 use Rattle.heap_graph.specs.Paths.{IsClosed}
-use Rattle.heap_graph.specs.Sizes.{is_too_large}
+use Rattle.heap_graph.specs.Sizes.{image_base, image_bytes, is_large, is_too_large, page_bytes, zygote_base, zygote_bytes}
 use Rattle.heap_world.specs.declared.command.Verb.{Verb}
 use Rattle.heap_world.specs.declared.command.Verb.TheVariants as verb
 
@@ -39,6 +46,79 @@ abbrev pub AreObjects : List Class → List Object → Type 0
 AreObjects cs [] = Unit {0}
 AreObjects cs (o ∷ os) = IsShape cs o.shape × AreSlots cs o.shape o.slots × AreObjects cs os
 
+-- what a slot of a kind may hold: a number in the kind's range, and for a reference null or an object
+abbrev pub FitsKind : Kind → Slot → Type 0
+FitsKind kind (slot.Number z) = in_range kind z ≡ true
+FitsKind kind slot.Null = is_ref kind ≡ true
+FitsKind kind (slot.Object n) = is_ref kind ≡ true
+
+-- each stored value fits its slot
+abbrev pub HoldsValues : Object → Type 0
+HoldsValues o = AllByRecursion (λ s. FitsKind s.at.kind s.value) o.slots
+
+abbrev pub is_in_image : Place → Bool
+is_in_image (place.Image spot) = true
+is_in_image (place.Zygote spot) = false
+is_in_image place.Young = false
+is_in_image place.Large = false
+is_in_image place.Promoted = false
+
+-- outside the image a large object stands in a slot of its own, and no other object does
+abbrev pub SuitsShape : List Class → Object → Place → Type 0
+SuitsShape cs o (place.Image spot) = Unit {0}
+SuitsShape cs o (place.Zygote spot) = is_large cs o.shape ≡ false
+SuitsShape cs o place.Young = is_large cs o.shape ≡ false
+SuitsShape cs o place.Large = is_large cs o.shape ≡ true
+SuitsShape cs o place.Promoted = is_large cs o.shape ≡ true
+
+-- which objects are made first: those of the image, then those that a fork promoted, then the others
+abbrev pub turn : Place → ℕ
+turn (place.Image spot) = 0
+turn (place.Zygote spot) = 1
+turn place.Young = 2
+turn place.Large = 2
+turn place.Promoted = 1
+
+-- objects stand by their turns, none before the least one
+abbrev pub AreInTurn : ℕ → List Object → Type 0
+AreInTurn least [] = Unit {0}
+AreInTurn least (o ∷ os) = (least ≤ turn o.place) × AreInTurn (turn o.place) os
+
+-- an object of the image stands directly behind so many bytes of it
+abbrev pub IsBehindImage : ℕ → Place → Type 0
+IsBehindImage bytes (place.Image spot) = spot ≡ image_base + bytes
+IsBehindImage bytes (place.Zygote spot) = Unit {0}
+IsBehindImage bytes place.Young = Unit {0}
+IsBehindImage bytes place.Large = Unit {0}
+IsBehindImage bytes place.Promoted = Unit {0}
+
+-- the objects of the image stand one directly behind the other, the first behind so many bytes
+abbrev pub FillImage : List Class → ℕ → List Object → Type 0
+FillImage cs bytes [] = Unit {0}
+FillImage cs bytes (o ∷ os) = IsBehindImage bytes o.place × FillImage cs (bytes + image_size cs o o.place) os
+
+-- an object of the zygote window stands directly behind so many bytes of it, or on the next whole page
+abbrev pub IsBehindZygote : ℕ → Place → Type 0
+IsBehindZygote bytes (place.Image spot) = Unit {0}
+IsBehindZygote bytes (place.Zygote spot) = (spot ≡ zygote_base + bytes) ⊎ (spot ≡ zygote_base + next_multiple page_bytes bytes)
+IsBehindZygote bytes place.Young = Unit {0}
+IsBehindZygote bytes place.Large = Unit {0}
+IsBehindZygote bytes place.Promoted = Unit {0}
+
+-- where the next object of the zygote window may stand, after an object that stands behind so many bytes
+abbrev pub zygote_next : List Class → ℕ → Object → Place → ℕ
+zygote_next cs bytes o (place.Image spot) = bytes
+zygote_next cs bytes o (place.Zygote spot) = spot + size_of_object cs o - zygote_base
+zygote_next cs bytes o place.Young = bytes
+zygote_next cs bytes o place.Large = bytes
+zygote_next cs bytes o place.Promoted = bytes
+
+-- the objects of the zygote window rise without overlap: each stands at the end of the one before it, or on the next
+-- whole page
+abbrev pub FillZygote : List Class → ℕ → List Object → Type 0
+FillZygote cs bytes [] = Unit {0}
+FillZygote cs bytes (o ∷ os) = IsBehindZygote bytes o.place × FillZygote cs (zygote_next cs bytes o o.place) os
+
 pub record IsFormed (g : Graph) : Type 0 where
   pub classes : IsClassList g.classes
   pub numbers : AreRising 0 g.next g.objects
@@ -46,6 +126,26 @@ pub record IsFormed (g : Graph) : Type 0 where
   pub objects : AreObjects g.classes g.objects
   -- what roots and slots hold is there
   pub closed : IsClosed g
+  -- a process may use at most 512 regions
+  pub budget : g.budget ≤ 512
+  -- each root name stands once
+  pub root_names : IsDistinct (λ r s. same_name r.name s.name) g.roots
+  -- each stored value fits its slot
+  pub values : AllByRecursion HoldsValues g.objects
+  -- before the seal every object stands in the image
+  pub before_seal : g.sealed ≡ false → AllByRecursion (λ o. is_in_image o.place ≡ true) g.objects
+  -- places outside the image are by shape
+  pub places : AllByRecursion (λ o. SuitsShape g.classes o o.place) g.objects
+  -- the image's objects come first, then the promoted ones, then the others
+  pub turns : AreInTurn 0 g.objects
+  -- the image's objects fill it, one directly behind the other
+  pub image : FillImage g.classes 0 g.objects
+  pub image_fits : image_fill g ≤ image_bytes
+  -- the zygote window's objects rise without overlap
+  pub zygote : FillZygote g.classes 0 g.objects
+  pub zygote_fits : zygote_fill g ≤ zygote_bytes
+  -- the regions used, and what large objects cost, lie within the budget
+  pub regions : used g + costs g ≤ g.budget
 
 -- a class line declares at most 4,096 fields
 abbrev pub HasFewFields : Verb → Type 0

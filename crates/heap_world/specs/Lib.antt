@@ -8,4 +8,5 @@ pub mod Pages
 pub mod Part
 pub mod Run
 pub mod Slots
+pub mod Sound
 pub mod World

@@ -9,7 +9,7 @@ ghost use Rattle.heap_world.specs.declared.command.Verb.{Verb};
 
 /// The graph of each process is formed: it is at first, every command keeps it, and a child's is its parent's.
 pub fn graphs_are_formed()
-    ensures first { (budget number : ℕ) → number ≤ 268435456 → IsFormed (first_graph budget number) }
+    ensures first { (budget number : ℕ) → budget ≤ 512 → number ≤ 268435456 → IsFormed (first_graph budget number) }
     ensures act { (p : Part) (v : Verb) → HasFewFields v → IsFormed p.graph → IsFormed (act p v).part.graph }
     ensures child { (g : Graph) → IsFormed g → IsFormed (child_of g) }
 {}
