@@ -35,7 +35,7 @@ fn is_card_among(cards: &[Card], card: &Card) -> bool
 }
 
 /// A set of cards with one more, unless it is in it.
-fn add_card(card: Card, cards: &mut Vec<Card>) -> Result<(), AllocError>
+pub(crate) fn add_card(card: Card, cards: &mut Vec<Card>) -> Result<(), AllocError>
     ensures { OnOk result (cards.new.items ≡ add_card card cards.old.items) }
 {
     if !is_card_among(cards, &card) {

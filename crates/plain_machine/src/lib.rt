@@ -6,3 +6,5 @@ mod cards;
 mod outcome;
 mod pages;
 mod part;
+mod slots;
+mod stores;

@@ -1,11 +1,17 @@
 //! Pages that processes may share, by name.
-ghost use Rattle.std.specs.Prelude.{◌≡◌, ◌≤◌, ◌<◌, ◌+◌, ◌^◌, map, length, count_by, IfOk};
-ghost use Rattle.heap_graph.specs.declared.names.Place.{Place};
-ghost use Rattle.heap_world.specs.Pages.{same_page, is_touched, count_from, is_image_page, is_zygote_page, is_large_page};
+ghost use Rattle.std.specs.Prelude.{◌≡◌, ◌<◌, ◌+◌, ◌-◌, ◌/◌, ◌^◌, map, count_by, IfOk};
+ghost use Rattle.heap_graph.specs.Sizes.{page_bytes};
+ghost use Rattle.heap_world.specs.Pages.{same_page, is_touched, count_from, is_image_page, is_zygote_page, is_large_page, page_in};
 ghost use Rattle.heap_world.specs.declared.names.PageName.TheVariants as page;
 
+use crate::cards::{IMAGE_BASE, ZYGOTE_BASE};
+use heap_graph::Place;
 use heap_world::PageName;
+use plain_graph::Object;
 use std::alloc::{AllocError, Global};
+
+/// The bytes of a page.
+pub(crate) const PAGE_BYTES: u64 = 4096;
 
 /// Whether two names are of one page.
 pub(crate) fn same_page(a: &PageName, b: &PageName) -> bool
@@ -98,4 +104,22 @@ pub(crate) fn count_large(pages: &[PageName]) -> usize
     ensures { result ≡ count_by is_large_page pages.now }
 {
     pages.iter().filter(|page| is_large_page(page)).count()
+}
+
+/// The page of an offset in an object, where others may share it.
+pub(crate) fn page_in(o: &Object, offset: u32) -> Option<PageName>
+    ensures { result ≡ page_in o.now o.now.place offset }
+{
+    match o.place() {
+        Place::Image(spot) => Some(PageName::Image(page_of(spot, offset, IMAGE_BASE))),
+        Place::Zygote(spot) => Some(PageName::Zygote(page_of(spot, offset, ZYGOTE_BASE))),
+        Place::Large | Place::Promoted => Some(PageName::Large(o.number(), offset / PAGE_BYTES as u32)),
+        Place::Young => None,
+    }
+}
+
+fn page_of(spot: u32, offset: u32, base: u32) -> u32
+    ensures { result ≡ (spot + offset - base) / page_bytes }
+{
+    ((u64::from(spot) + u64::from(offset)).saturating_sub(u64::from(base)) / PAGE_BYTES) as u32
 }
