@@ -1,2 +1,2 @@
-pub mod CardLists
+pub mod Objects
 pub mod PageLists

@@ -99,7 +99,6 @@ fn push_card(graph: &Graph, place: Place, s: &Stored, cards: &mut Vec<Card>) -> 
 }
 
 /// Adds the cards of the outward slots of an object at a place.
-#[tactic(auto, using(crate::proofs::CardLists::slot_cards_more))]
 fn push_cards(
     graph: &Graph,
     place: Place,
@@ -108,8 +107,10 @@ fn push_cards(
 ) -> Result<(), AllocError>
     ensures { OnOk result (cards.new.items ≡ cards.old.items ++ slot_cards graph.now place slots.now) }
 {
-    for s in slots {
+    let mut rest = slots;
+    while let Some((s, more)) = rest.split_first() {
         push_card(graph, place, s, cards)?;
+        rest = more;
     }
     Ok(())
 }

@@ -69,14 +69,18 @@ impl Part {
     }
 
     /// The object that a root holds.
+    #[tactic(auto, using(crate::proofs::Objects::has_shape))]
     pub(crate) fn object_held(&self, held: Held) -> Result<&Object, Refusal>
         requires sound { IsSound self.now }
         ensures object { MatchResult result (λ o. object_held self.now.graph held ≡ Ok o.now) (λ why. object_held self.now.graph held ≡ Err why) }
         ensures shape { IfOk result (λ o. IsShape self.now.graph.classes o.now.shape) }
     {
-        match held {
-            Held::Object(number) => self.graph.object_at(number).ok_or(Refusal::Null),
-            Held::Null => Err(Refusal::Null),
+        let Held::Object(number) = held else {
+            return Err(Refusal::Null);
+        };
+        match self.graph.object_at(number) {
+            Some(o) => Ok(o),
+            None => Err(Refusal::Null),
         }
     }
 
