@@ -6,5 +6,6 @@ mod cards;
 mod outcome;
 mod pages;
 mod part;
+mod reads;
 mod slots;
 mod stores;
