@@ -1,5 +1,5 @@
 -- How large what a formed graph holds can be.
-use Rattle.std.proofs.Common.{◌≡◌, ℕ, zero, suc, ◌+◌, ◌-◌, ◌*◌, ◌/◌, ◌<◌, ◌≤◌, Bool, true, false, inl, inr, not, List, [], ◌∷◌, ◌++◌, map, filter, length, length-append, sum, nat_eq, nat_le, get_or, All, refl, sym, ap, subst, ◌∙◌, arith, lit≤}
+use Rattle.std.proofs.Common.{◌≡◌, ℕ, zero, suc, ◌+◌, ◌-◌, ◌*◌, ◌/◌, ◌<◌, ◌≤◌, Bool, true, false, inl, inr, not, List, [], ◌∷◌, ◌++◌, length, length-append, sum, nat_eq, nat_le, All, refl, sym, ap, subst, ◌∙◌, arith}
 use Rattle.std.specs.List.{AllByRecursion, flat_map}
 use Rattle.std.specs.Cmp.{IsEquivalence}
 use Rattle.std.proofs.lemmas.Bool.{leb-true, eqb-true, eq-eqb, and_parts, and_from, or_cases}
@@ -15,7 +15,7 @@ use Rattle.heap_graph.specs.declared.names.Place.TheVariants as place
 use Rattle.heap_graph.specs.declared.names.Shape.{Shape}
 use Rattle.heap_graph.specs.declared.names.Shape.TheVariants.{Instance, Array}
 use Rattle.heap_graph.specs.Graph.{Graph, Object, image_fill, image_size, size_of_object, zygote_fill}
-use Rattle.heap_graph.specs.Packing.{after, cost, end_from, end_of, place_if, used, young_sizes}
+use Rattle.heap_graph.specs.Packing.{after, cost, end_from, place_if, young_sizes}
 use Rattle.heap_graph.specs.Sizes.{is_primitive_array, is_too_large, most_bytes, parts_for, unrounded}
 use Rattle.heap_world.specs.Formed.{IsFormed, AreObjects, FillZygote, IsBehindZygote, IsShape, zygote_next}
 use Rattle.heap_world.specs.declared.names.PageName.{PageName}
@@ -24,7 +24,7 @@ use Rattle.heap_world.specs.Pages.{count_from, image_pages, is_touched, large_pa
 use Rattle.heap_world.specs.Part.{Part}
 use Rattle.heap_world.specs.Sound.{IsSound}
 use Rattle.heap_world.proofs.LaidOut.{lie-within}
-use Rattle.heap_world.proofs.Placed.{IsPlaced, costs-is, placed_of, young_end, young_next, zygote_top}
+use Rattle.heap_world.proofs.Placed.{costs-is, placed_of, young_end, young_next, zygote_top}
 use Rattle.heap_world.proofs.Totals.{total}
 
 -- no size ends before it began

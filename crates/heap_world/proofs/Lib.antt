@@ -16,6 +16,8 @@ pub mod PlacedFork
 pub mod PlacedPush
 pub mod PlacedSame
 pub mod Processes
+pub mod SoundActs
+pub mod SoundParts
 pub mod Standing
 pub mod Steps
 pub mod Told

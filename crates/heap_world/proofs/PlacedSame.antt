@@ -144,7 +144,7 @@ module _ (cs ds : List Class) where
     subst (λ n. FillImage ds (bytes + n) xs) (sym (image_size-same cs ds o x same.0)) (image-same (bytes + image_size cs o o.place) os xs same.1 h.1),
   )
 
-  zygote-same : (bytes : ℕ) (os xs : List Object) → AreSame cs ds os xs → FillZygote cs bytes os → FillZygote ds bytes xs
+  pub zygote-same : (bytes : ℕ) (os xs : List Object) → AreSame cs ds os xs → FillZygote cs bytes os → FillZygote ds bytes xs
   zygote-same bytes [] [] same h = tt
   zygote-same bytes [] (x ∷ xs) same h = absurd same
   zygote-same bytes (o ∷ os) [] same h = absurd same
