@@ -32,6 +32,7 @@ use Rattle.heap_world.proofs.LaidOut.{all-push}
 use Rattle.heap_world.proofs.Placed.{IsPlaced, costs-is, fill-is, placed_of, top-is, used-is}
 use Rattle.heap_world.proofs.PlacedFilter.{all-filter, placed-filter}
 use Rattle.heap_world.proofs.PlacedFork.{placed-promoted, young-sum}
+use Rattle.heap_world.proofs.Referents.{referents-weak}
 use Rattle.heap_world.proofs.PlacedSame.{cleared-same, end-same, grown-same, placed-same, stored-same}
 
 -- what a formed graph says, but for the places
@@ -56,6 +57,7 @@ formed_from g core placed = record {
   budget = core.budget;
   root_names = core.root_names;
   values = core.values;
+  weak = referents-weak g.classes core.classes g.objects core.objects;
   before_seal = placed.before_seal;
   places = placed.places;
   turns = placed.turns;

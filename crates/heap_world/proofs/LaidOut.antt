@@ -48,7 +48,7 @@ module _ (P : Laid → Type 0) (first : P bare) (step : (weak : Bool) (laid : La
   each-layout cs k = all-at P (layouts cs) k bare first (layouts-keep [] cs tt)
 
 -- a field's place is not before the end that it follows
-multiple-le : (k : Kind) (p : ℕ) → p ≤ next_multiple (kind_bytes k) p
+pub multiple-le : (k : Kind) (p : ℕ) → p ≤ next_multiple (kind_bytes k) p
 multiple-le k p = elim k as (λ k. p ≤ next_multiple (kind_bytes k) p) [ Ref ↦ omega arith | _ ↦ omega arith ]
 
 -- the header and each field lie before the end

@@ -16,6 +16,7 @@ pub mod PlacedFork
 pub mod PlacedPush
 pub mod PlacedSame
 pub mod Processes
+pub mod Referents
 pub mod SoundActs
 pub mod SoundParts
 pub mod Standing
