@@ -28,7 +28,7 @@ use Rattle.heap_world.proofs.FormedDefine.{IsGrown}
 use Rattle.heap_world.proofs.FormedNumbers.{rising-same, rising-filter, rising-push, numbers-stored_in, numbers-cleared, numbers-promoted, in_pushed, last_pushed}
 use Rattle.heap_world.proofs.FormedSlots.{objects-grown, objects-filter, objects-cleared, objects-promoted, objects-push, objects-stored, objects_aim-stored, objects_aim-promoted}
 use Rattle.heap_world.proofs.FormedValues.{AreValues, SameNamed, names-write, values-cleared, values-promoted, values-stored}
-use Rattle.heap_world.proofs.LaidOut.{all-push}
+use Rattle.heap_graph.proofs.LaidOut.{all-push}
 use Rattle.heap_world.proofs.Placed.{IsPlaced, costs-is, fill-is, placed_of, top-is, used-is}
 use Rattle.heap_world.proofs.PlacedFilter.{all-filter, placed-filter}
 use Rattle.heap_world.proofs.PlacedFork.{placed-promoted, young-sum}

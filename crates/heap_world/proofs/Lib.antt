@@ -9,7 +9,6 @@ pub mod FormedNumbers
 pub mod FormedSlots
 pub mod FormedStores
 pub mod FormedValues
-pub mod LaidOut
 pub mod Placed
 pub mod PlacedFilter
 pub mod PlacedFork
@@ -22,4 +21,3 @@ pub mod SoundParts
 pub mod Standing
 pub mod Steps
 pub mod Told
-pub mod Totals

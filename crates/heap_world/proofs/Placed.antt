@@ -8,7 +8,7 @@ use Rattle.heap_graph.specs.Graph.{Graph, Object, greatest, image_fill, image_si
 use Rattle.heap_graph.specs.Packing.{after, cost, costs, end_from, used}
 use Rattle.heap_graph.specs.Sizes.{parts_for}
 use Rattle.heap_world.specs.Formed.{IsFormed, AreInTurn, FillImage, FillZygote, IsBehindZygote, SuitsShape, is_in_image, zygote_next}
-use Rattle.heap_world.proofs.Totals.{total, sum-total}
+use Rattle.heap_graph.proofs.Totals.{total, sum-total}
 
 -- where the young objects end, behind so many bytes
 abbrev pub young_next : List Class → ℕ → Object → Place → ℕ

@@ -10,7 +10,7 @@ use Rattle.heap_graph.specs.Sizes.{parts_for}
 use Rattle.heap_world.specs.Formed.{AreInTurn, FillImage, FillZygote, SuitsShape, turn, zygote_next}
 use Rattle.heap_world.specs.Pages.{pages_if_promoted}
 use Rattle.heap_world.proofs.Placed.{IsPlaced, young_end, zygote_top}
-use Rattle.heap_world.proofs.Totals.{total-filter_le}
+use Rattle.heap_graph.proofs.Totals.{total-filter_le}
 
 -- those of all that are kept
 pub all-filter : {X : Type 0} (P : X → Type 0) (keep : X → Bool) (xs : List X) → AllByRecursion P xs → AllByRecursion P (filter keep xs)

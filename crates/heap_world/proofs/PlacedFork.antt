@@ -12,7 +12,7 @@ use Rattle.heap_graph.specs.Packing.{cost}
 use Rattle.heap_graph.specs.Sizes.{zygote_base}
 use Rattle.heap_world.specs.Formed.{AreInTurn, FillImage, FillZygote, IsBehindImage, IsBehindZygote, SuitsShape, turn, zygote_next}
 use Rattle.heap_world.proofs.Placed.{IsPlaced, young_end, young_next, zygote_top}
-use Rattle.heap_world.proofs.Totals.{total, total-promoted}
+use Rattle.heap_graph.proofs.Totals.{total, total-promoted}
 
 -- the bytes of a young object
 abbrev pub young_size : List Class → Object → Place → ℕ

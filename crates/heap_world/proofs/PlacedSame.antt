@@ -18,7 +18,7 @@ use Rattle.heap_world.specs.Acts.{stored_in, stored_in_if}
 use Rattle.heap_world.specs.Pages.{count_from, large_pages, pages_if_promoted}
 use Rattle.heap_world.specs.Formed.{AreInTurn, AreObjects, FillImage, FillZygote, IsBehindImage, IsBehindZygote, IsShape, SuitsShape, is_in_image, turn, zygote_next}
 use Rattle.heap_world.proofs.Placed.{IsPlaced, young_end, young_next, zygote_top}
-use Rattle.heap_world.proofs.Totals.{total}
+use Rattle.heap_graph.proofs.Totals.{total}
 
 -- an object with one class list, and one with another, have the same place and size
 pub record IsSame (cs ds : List Class) (o x : Object) : Type 0 where

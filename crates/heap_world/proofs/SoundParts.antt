@@ -32,7 +32,7 @@ use Rattle.heap_world.proofs.PlacedFilter.{no_image, pages-filter, top-filter, z
 use Rattle.heap_world.proofs.PlacedPush.{top-push, zygote-push}
 use Rattle.heap_world.proofs.PlacedSame.{AreSame, all_pages-same, cleared-same, grown-same, image_size-same, stored-same, top-same, total-same, zygote-same}
 use Rattle.heap_world.proofs.Standing.{object-all, slot-stands, standing-is}
-use Rattle.heap_world.proofs.Totals.{total-filter, total-push}
+use Rattle.heap_graph.proofs.Totals.{total-filter, total-push}
 
 -- what a sound part says, but for its graph
 pub record IsMarked (p : Part) : Type 0 where

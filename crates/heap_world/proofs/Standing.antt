@@ -20,9 +20,9 @@ use Rattle.heap_world.specs.declared.names.PageName.TheVariants.{Image, Zygote, 
 use Rattle.heap_world.specs.Formed.{IsFormed, FillImage, FillZygote, HasSlot, IsBehindImage, IsBehindZygote, zygote_next}
 use Rattle.heap_world.specs.Pages.{count_from, image_pages, is_touched, page_in, pages_if_promoted, promoted_pages, same_page, standing_pages, zygote_pages}
 use Rattle.heap_world.proofs.Bounds.{page-refl}
-use Rattle.heap_world.proofs.LaidOut.{found-all, lie-within}
+use Rattle.heap_graph.proofs.LaidOut.{found-all, lie-within}
 use Rattle.heap_world.proofs.Placed.{fill-is, top-is, top-max, zygote_top}
-use Rattle.heap_world.proofs.Totals.{total}
+use Rattle.heap_graph.proofs.Totals.{total}
 
 -- graphs of the same fills and promoted pages have the same standing pages
 pub standing-is : (g h : Graph) → FillZygote g.classes 0 g.objects → FillZygote h.classes 0 h.objects
