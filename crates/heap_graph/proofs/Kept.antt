@@ -9,7 +9,8 @@ use Rattle.heap_graph.specs.Reach.{Node, node_of, nodes, starts, is_among, reach
 use Rattle.heap_graph.specs.Collection.{is_kept, cleared, collect}
 use Rattle.heap_graph.specs.Paths.{IsNumber, IsReached, IsClosed, numbers}
 use Rattle.heap_graph.proofs.Lists.{Stands, any_at, any-filter, any-map, any-flat_map}
-use Rattle.heap_graph.proofs.Paths.{held_from, is_a_path, reached_next}
+use Rattle.heap_graph.proofs.Paths.{held_from, reached_next}
+use Rattle.heap_graph.proofs.Reached.{reached-is}
 use Rattle.heap_graph.proofs.Slots.{strong_is_target, kept_or_strong}
 
 -- an object is kept exactly where it is immune or a path reaches it
@@ -20,12 +21,12 @@ kept_is g o = (why, keeps)
     why h =
         elim (or_cases (is_immune g.sealed o.place) (is_among (reached g) o.number) h) [
           | inl immune ↦ inl immune
-          | inr seen ↦ inr ((is_a_path (nodes g) (starts g) o.number).0 seen)
+          | inr seen ↦ inr ((reached-is g o.number).0 seen)
         ]
 
     keeps : (is_immune g.sealed o.place ≡ true) ⊎ IsReached g o.number → is_kept g.sealed (reached g) o ≡ true
     keeps (inl immune) = or_left (is_immune g.sealed o.place) (is_among (reached g) o.number) immune
-    keeps (inr path) = or_right (is_immune g.sealed o.place) (is_among (reached g) o.number) ((is_a_path (nodes g) (starts g) o.number).1 path)
+    keeps (inr path) = or_right (is_immune g.sealed o.place) (is_among (reached g) o.number) ((reached-is g o.number).1 path)
 
 module _ (g : Graph) where
   -- the numbers of the nodes are those of the objects

@@ -1,6 +1,10 @@
 pub mod Kept
+pub mod LaidOut
 pub mod Lists
 pub mod Packing
 pub mod Paths
+pub mod Reached
+pub mod Sizes
 pub mod Slots
+pub mod Totals
 pub mod Twice

@@ -9,7 +9,7 @@ use Rattle.heap_graph.specs.Paths.{IsNumber, LeadsTo}
 use Rattle.heap_graph.proofs.Lists.{Stands, any_at, any-filter, any-flat_map, filters_nested, among-filter, among_filter_at}
 
 -- what the members of a set hold, by a test on the nodes
-held-is : (vs : List Node) (seen : List ℕ) (n : ℕ) → is_among (held_by vs seen) n ≡ list_any (λ v. is_among seen v.number && is_among v.targets n) vs
+pub held-is : (vs : List Node) (seen : List ℕ) (n : ℕ) → is_among (held_by vs seen) n ≡ list_any (λ v. is_among seen v.number && is_among v.targets n) vs
 held-is vs seen n =
     any-flat_map (λ v. v.targets) (nat_eq n) (filter (λ v. is_among seen v.number) vs)
     ∙ any-filter (λ v. is_among v.targets n) (λ v. is_among seen v.number) vs
@@ -33,11 +33,11 @@ held_more vs seen more n inner h =
     held_from vs more n v (inner v.number member) holds stands
 
 -- a number is the one member of its list
-alone : (m : ℕ) → is_among (m ∷ []) m ≡ true
+pub alone : (m : ℕ) → is_among (m ∷ []) m ≡ true
 alone m = or_left (nat_eq m m) false (eq-eqb m m refl)
 
 -- and no other number is
-alone_at : (m k : ℕ) → is_among (m ∷ []) k ≡ true → k ≡ m
+pub alone_at : (m k : ℕ) → is_among (m ∷ []) k ≡ true → k ≡ m
 alone_at m k h =
     elim (or_cases (nat_eq k m) false h) [
       | inl same ↦ eqb-true k m same

@@ -28,7 +28,7 @@ target_here (slot.Object m) ns n h =
       | inr wrong ↦ absurd (false≢true wrong)
     ]
 
-target_later : (s : Slot) (ns : List ℕ) (n : ℕ) → is_among ns n ≡ true → is_among (with_target s ns) n ≡ true
+pub target_later : (s : Slot) (ns : List ℕ) (n : ℕ) → is_among ns n ≡ true → is_among (with_target s ns) n ≡ true
 target_later (slot.Number z) ns n h = h
 target_later slot.Null ns n h = h
 target_later (slot.Object m) ns n h = or_right (nat_eq n m) (is_among ns n) h

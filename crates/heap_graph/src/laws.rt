@@ -1,14 +1,16 @@
 //! Laws above the definitions: what they say, in other words.
 ghost use Rattle.std.specs.Prelude.{◌≡◌, ◌⊎◌, ◌↔◌, ◌≤◌, ℕ, List, true};
+ghost use Rattle.std.specs.List.{AllByRecursion};
 ghost use Rattle.heap_graph.specs.Collection.{collect, is_kept};
 ghost use Rattle.heap_graph.specs.Graph.{Graph, Object, is_immune};
-ghost use Rattle.heap_graph.specs.Packing.{places_from, used};
-ghost use Rattle.heap_graph.specs.Paths.{ArePacked, FitRegions, IsClosed, IsReached, LeadsTo};
+ghost use Rattle.heap_graph.specs.Packing.{costs, places_from, used, young_objects, young_sizes};
+ghost use Rattle.heap_graph.specs.Paths.{ArePacked, FitRegions, FitsRegion, IsClosed, IsReached, LeadsTo};
 ghost use Rattle.heap_graph.specs.Reach.{Node, is_among, reached, reached_from};
 
-/// Reaching by rounds is a path of strong slots.
+/// Reaching by rounds is a path of strong slots, among nodes and among the objects of a graph.
 pub fn reaching_is_a_path()
-    ensures { (vs : List Node) (from : List ℕ) (n : ℕ) → (is_among (reached_from vs from) n ≡ true) ↔ ((path : List ℕ) × LeadsTo vs from path n) }
+    ensures nodes { (vs : List Node) (from : List ℕ) (n : ℕ) → (is_among (reached_from vs from) n ≡ true) ↔ ((path : List ℕ) × LeadsTo vs from path n) }
+    ensures objects { (g : Graph) (n : ℕ) → (is_among (reached g) n ≡ true) ↔ IsReached g n }
 {}
 
 /// A collection keeps an object exactly where it is immune or a path reaches it.
@@ -29,6 +31,16 @@ pub fn collecting_leaves_nothing_dangling()
 /// What fits a region lies in one region, places rise, and nothing overlaps.
 pub fn places_are_packed()
     ensures { (p : ℕ) (sizes : List ℕ) → FitRegions sizes → ArePacked p sizes (places_from p sizes) }
+{}
+
+/// The young objects of a graph, whose shapes stand in regions, lie in one region each, rise and don't overlap.
+pub fn young_objects_are_packed()
+    ensures { (g : Graph) → AllByRecursion (λ o. FitsRegion g.classes o.shape) (young_objects g) → ArePacked 0 (young_sizes g) (places_from 0 (young_sizes g)) }
+{}
+
+/// A collection doesn't raise what large objects cost.
+pub fn collecting_costs_no_more()
+    ensures { (g : Graph) → costs (collect g) ≤ costs g }
 {}
 
 /// A collection doesn't raise the regions used.

@@ -7,7 +7,8 @@ mod laws;
 mod names;
 
 pub use laws::{
-    collecting_leaves_nothing_dangling, collecting_twice_is_once, collecting_uses_no_more,
-    kept_is_immune_or_reached, places_are_packed, reaching_is_a_path,
+    collecting_costs_no_more, collecting_leaves_nothing_dangling, collecting_twice_is_once,
+    collecting_uses_no_more, kept_is_immune_or_reached, places_are_packed, reaching_is_a_path,
+    young_objects_are_packed,
 };
 pub use names::{Held, Place, Root, Shape, Slot, Stored};

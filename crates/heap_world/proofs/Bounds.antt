@@ -1,5 +1,5 @@
 -- How large what a formed graph holds can be.
-use Rattle.std.proofs.Common.{◌≡◌, ℕ, zero, suc, ◌+◌, ◌-◌, ◌*◌, ◌/◌, ◌<◌, ◌≤◌, Bool, true, false, inl, inr, not, List, [], ◌∷◌, ◌++◌, map, filter, length, length-append, sum, nat_eq, nat_le, get_or, All, refl, sym, ap, subst, ◌∙◌, arith, lit≤}
+use Rattle.std.proofs.Common.{◌≡◌, ℕ, zero, suc, ◌+◌, ◌-◌, ◌*◌, ◌/◌, ◌<◌, ◌≤◌, Bool, true, false, inl, inr, not, List, [], ◌∷◌, ◌++◌, length, length-append, sum, nat_eq, nat_le, All, refl, sym, ap, subst, ◌∙◌, arith}
 use Rattle.std.specs.List.{AllByRecursion, flat_map}
 use Rattle.std.specs.Cmp.{IsEquivalence}
 use Rattle.std.proofs.lemmas.Bool.{leb-true, eqb-true, eq-eqb, and_parts, and_from, or_cases}
@@ -15,7 +15,7 @@ use Rattle.heap_graph.specs.declared.names.Place.TheVariants as place
 use Rattle.heap_graph.specs.declared.names.Shape.{Shape}
 use Rattle.heap_graph.specs.declared.names.Shape.TheVariants.{Instance, Array}
 use Rattle.heap_graph.specs.Graph.{Graph, Object, image_fill, image_size, size_of_object, zygote_fill}
-use Rattle.heap_graph.specs.Packing.{after, cost, end_from, end_of, place_if, used, young_sizes}
+use Rattle.heap_graph.specs.Packing.{after, cost, end_from, place_if, young_sizes}
 use Rattle.heap_graph.specs.Sizes.{is_primitive_array, is_too_large, most_bytes, parts_for, unrounded}
 use Rattle.heap_world.specs.Formed.{IsFormed, AreObjects, FillZygote, IsBehindZygote, IsShape, zygote_next}
 use Rattle.heap_world.specs.declared.names.PageName.{PageName}
@@ -23,17 +23,9 @@ use Rattle.heap_world.specs.declared.names.PageName.TheVariants.{Image, Zygote, 
 use Rattle.heap_world.specs.Pages.{count_from, image_pages, is_touched, large_pages, pages_if_promoted, promoted_pages, same_page, standing_pages, zygote_pages}
 use Rattle.heap_world.specs.Part.{Part}
 use Rattle.heap_world.specs.Sound.{IsSound}
-use Rattle.heap_world.proofs.LaidOut.{lie-within}
-use Rattle.heap_world.proofs.Placed.{IsPlaced, costs-is, placed_of, young_end, young_next, zygote_top}
-use Rattle.heap_world.proofs.Totals.{total}
-
--- no size ends before it began
-pub after-above : (p s : ℕ) → p + s ≤ after p s
-after-above p s = by (nat_eq (p / 262144) ((p + s - 1) / 262144))
-  where
-    by : (b : Bool) → p + s ≤ place_if b p + s
-    by true = omega arith
-    by false = omega arith
+use Rattle.heap_graph.proofs.Sizes.{after-above, not-large, size-least, unrounded-least}
+use Rattle.heap_world.proofs.Placed.{costs-is, placed_of, young_end, young_next, zygote_top}
+use Rattle.heap_graph.proofs.Totals.{total}
 
 -- so sizes that are packed end no earlier than if they stood one behind the other
 sum-le-end : (p : ℕ) (ss : List ℕ) → p + sum ss ≤ end_from p ss
@@ -45,18 +37,6 @@ pub young-le : (g : Graph) → IsFormed g → sum (young_sizes g) ≤ 134217728
 young-le g formed =
     let placed = formed.regions in
     omega (arith, sum-le-end 0 (young_sizes g), formed.regions, formed.budget)
-
--- an array holds its header
-array-least : (k : Kind) (n : ℕ) → 8 ≤ array_end k n
-array-least k n = elim k as (λ k. 8 ≤ array_end k n) [ Ref ↦ omega arith | _ ↦ omega arith ]
-
--- so does each object
-pub unrounded-least : (cs : List Class) (shape : Shape) → 8 ≤ unrounded cs shape
-unrounded-least cs (Instance class) = (lie-within cs class).0
-unrounded-least cs (Array kind count) = array-least kind count
-
-pub size-least : (cs : List Class) (o : Object) → 8 ≤ size_of_object cs o
-size-least cs o = omega (arith, unrounded-least cs o.shape)
 
 -- each object takes eight bytes of a window or of the regions, or costs a region
 eight-each : (cs : List Class) (bytes end : ℕ) (os : List Object) → FillZygote cs bytes os
@@ -81,19 +61,7 @@ few-objects g formed =
     let placed = placed_of g formed in
     omega (arith, eight-each g.classes 0 0 g.objects formed.zygote, placed.image_fits, placed.zygote_fits, placed.regions, formed.budget)
 
--- what is not so is not
-not-false : (b : Bool) → not b ≡ false → b ≡ true
-not-false true e = refl
-not-false false e = cc
-
--- a shape that is not too large
-not-large : (cs : List Class) (shape : Shape) → is_too_large cs shape ≡ false → unrounded cs shape ≤ 1048576
-not-large cs shape e = by (is_primitive_array shape) e
-  where
-    by : (b : Bool) → not (nat_le (unrounded cs shape) (most_bytes b)) ≡ false → unrounded cs shape ≤ 1048576
-    by true e = leb-true (unrounded cs shape) 1048576 (not-false (nat_le (unrounded cs shape) 1048576) e)
-    by false e = let le : unrounded cs shape ≤ 262144 = leb-true (unrounded cs shape) 262144 (not-false (nat_le (unrounded cs shape) 262144) e) in omega (arith, le)
-
+-- a shape of a class list
 shape-bytes : (cs : List Class) (shape : Shape) → IsShape cs shape → unrounded cs shape ≤ 1048576
 shape-bytes cs (Instance class) h = not-large cs (Instance class) h.1
 shape-bytes cs (Array kind count) h = not-large cs (Array kind count) h

@@ -1,5 +1,5 @@
 -- A graph stays formed by each change that a command makes.
-use Rattle.std.proofs.Common.{◌≡◌, ℕ, ◌+◌, ◌<◌, ◌≤◌, true, false, ◌||◌, List, [], ◌∷◌, ◌++◌, Some, map, filter, nat_le, refl, sym, ap, subst, ◌∙◌, arith}
+use Rattle.std.proofs.Common.{◌≡◌, ℕ, ◌+◌, ◌<◌, ◌≤◌, true, false, List, [], ◌∷◌, ◌++◌, Some, map, filter, refl, sym, ap, subst, ◌∙◌, arith}
 use Rattle.std.specs.List.{AllByRecursion, IsDistinct}
 use Rattle.std.proofs.lemmas.Bool.{leb-true, or_parts}
 use Rattle.class_layout.specs.ClassList.{Class, IsClassList, builtin_classes}
@@ -28,10 +28,11 @@ use Rattle.heap_world.proofs.FormedDefine.{IsGrown}
 use Rattle.heap_world.proofs.FormedNumbers.{rising-same, rising-filter, rising-push, numbers-stored_in, numbers-cleared, numbers-promoted, in_pushed, last_pushed}
 use Rattle.heap_world.proofs.FormedSlots.{objects-grown, objects-filter, objects-cleared, objects-promoted, objects-push, objects-stored, objects_aim-stored, objects_aim-promoted}
 use Rattle.heap_world.proofs.FormedValues.{AreValues, SameNamed, names-write, values-cleared, values-promoted, values-stored}
-use Rattle.heap_world.proofs.LaidOut.{all-push}
+use Rattle.heap_graph.proofs.LaidOut.{all-push}
 use Rattle.heap_world.proofs.Placed.{IsPlaced, costs-is, fill-is, placed_of, top-is, used-is}
 use Rattle.heap_world.proofs.PlacedFilter.{all-filter, placed-filter}
 use Rattle.heap_world.proofs.PlacedFork.{placed-promoted, young-sum}
+use Rattle.heap_world.proofs.Referents.{referents-weak}
 use Rattle.heap_world.proofs.PlacedSame.{cleared-same, end-same, grown-same, placed-same, stored-same}
 
 -- what a formed graph says, but for the places
@@ -56,6 +57,7 @@ formed_from g core placed = record {
   budget = core.budget;
   root_names = core.root_names;
   values = core.values;
+  weak = referents-weak g.classes core.classes g.objects core.objects;
   before_seal = placed.before_seal;
   places = placed.places;
   turns = placed.turns;

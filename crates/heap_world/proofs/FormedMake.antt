@@ -34,7 +34,7 @@ use Rattle.heap_world.proofs.FormedStores.{held-aims}
 use Rattle.heap_world.proofs.FormedValues.{AreValues, held-fits}
 use Rattle.heap_world.proofs.Placed.{IsPlaced, costs-is, end-is, fill-is, placed_of, used-is, young_end, young_next}
 use Rattle.heap_world.proofs.PlacedPush.{placed-heap, placed-image}
-use Rattle.heap_world.proofs.Totals.{total}
+use Rattle.heap_graph.proofs.Totals.{total}
 
 -- the part after a command has a formed graph
 abbrev pub Keeps : Effect → Type 0

@@ -2,7 +2,6 @@
 use Rattle.std.proofs.Common.{◌≡◌, ℕ, Bool, true, false, not, cond, List, [], ◌∷◌, map, filter, nat_eq, refl}
 use Rattle.std.specs.List.{AllByRecursion, IsDistinct}
 use Rattle.class_layout.specs.declared.kind.Kind.{Kind}
-use Rattle.class_layout.specs.declared.kind.Kind.TheVariants as kind
 use Rattle.class_layout.specs.declared.kind.Value.{Value}
 use Rattle.class_layout.specs.declared.kind.Value.TheVariants as value
 use Rattle.class_layout.specs.ClassList.{Class}
@@ -14,7 +13,7 @@ use Rattle.heap_graph.specs.declared.names.Root.{Root}
 use Rattle.heap_graph.specs.declared.names.Slot.{Slot}
 use Rattle.heap_graph.specs.declared.names.Slot.TheVariants as slot
 use Rattle.heap_graph.specs.declared.names.Stored.{Stored}
-use Rattle.heap_graph.specs.Collection.{clear_if, cleared, cleared_slot, cleared_slots, if_kept}
+use Rattle.heap_graph.specs.Collection.{clear_if, cleared, cleared_slots, if_kept}
 use Rattle.heap_graph.specs.Fork.{next_spot, promoted_from}
 use Rattle.heap_graph.specs.Graph.{Object, drop_root, size_of_object, write_first, write_root}
 use Rattle.heap_graph.specs.Reach.{is_among}

@@ -9,14 +9,15 @@ pub mod FormedNumbers
 pub mod FormedSlots
 pub mod FormedStores
 pub mod FormedValues
-pub mod LaidOut
 pub mod Placed
 pub mod PlacedFilter
 pub mod PlacedFork
 pub mod PlacedPush
 pub mod PlacedSame
 pub mod Processes
+pub mod Referents
+pub mod SoundActs
+pub mod SoundParts
 pub mod Standing
 pub mod Steps
 pub mod Told
-pub mod Totals

@@ -1,14 +1,14 @@
 -- What holds of the places of a graph's objects, apart from the rest of the graph.
-use Rattle.std.proofs.Common.{◌≡◌, ℕ, ◌+◌, ◌≤◌, Bool, true, false, cond, inl, inr, List, [], ◌∷◌, map, filter, max, refl, sym, ap, subst, ◌∙◌, arith}
+use Rattle.std.proofs.Common.{◌≡◌, ℕ, ◌+◌, ◌≤◌, Bool, true, false, cond, inl, inr, List, [], ◌∷◌, map, filter, max, refl, ap, arith}
 use Rattle.std.specs.List.{AllByRecursion}
 use Rattle.class_layout.specs.ClassList.{Class}
 use Rattle.heap_graph.specs.declared.names.Place.{Place}
 use Rattle.heap_graph.specs.declared.names.Place.TheVariants as place
-use Rattle.heap_graph.specs.Graph.{Graph, Object, greatest, image_fill, image_size, is_young, size_of_object, zygote_end, zygote_fill}
-use Rattle.heap_graph.specs.Packing.{after, cost, costs, end_from, end_of, used}
+use Rattle.heap_graph.specs.Graph.{Graph, Object, greatest, image_fill, image_size, is_young, size_of_object, zygote_end}
+use Rattle.heap_graph.specs.Packing.{after, cost, costs, end_from, used}
 use Rattle.heap_graph.specs.Sizes.{parts_for}
 use Rattle.heap_world.specs.Formed.{IsFormed, AreInTurn, FillImage, FillZygote, IsBehindZygote, SuitsShape, is_in_image, zygote_next}
-use Rattle.heap_world.proofs.Totals.{total, sum-total}
+use Rattle.heap_graph.proofs.Totals.{total, sum-total}
 
 -- where the young objects end, behind so many bytes
 abbrev pub young_next : List Class → ℕ → Object → Place → ℕ
@@ -44,9 +44,6 @@ pub top-max : (cs : List Class) (bytes : ℕ) (os : List Object) → FillZygote 
 top-max cs bytes [] h = omega arith
 top-max cs bytes (o ∷ os) h = by o.place h.0 (top-max cs (zygote_next cs bytes o o.place) os h.1)
   where
-    ends : ℕ
-    ends = greatest (map (λ o. zygote_end cs o o.place) os)
-
     by : (at : Place) → IsBehindZygote bytes at → zygote_top cs (zygote_next cs bytes o at) os ≡ max (zygote_next cs bytes o at) (greatest (map (λ o. zygote_end cs o o.place) os))
         → zygote_top cs (zygote_next cs bytes o at) os ≡ max bytes (max (zygote_end cs o at) (greatest (map (λ o. zygote_end cs o o.place) os)))
     by (place.Image spot) behind rest = omega (arith, rest)

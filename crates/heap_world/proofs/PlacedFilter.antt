@@ -7,10 +7,10 @@ use Rattle.heap_graph.specs.declared.names.Place.TheVariants as place
 use Rattle.heap_graph.specs.Graph.{Object, image_size, is_immune}
 use Rattle.heap_graph.specs.Packing.{cost}
 use Rattle.heap_graph.specs.Sizes.{parts_for}
-use Rattle.heap_world.specs.Formed.{AreInTurn, FillImage, FillZygote, IsBehindImage, IsBehindZygote, SuitsShape, turn, zygote_next}
+use Rattle.heap_world.specs.Formed.{AreInTurn, FillImage, FillZygote, SuitsShape, turn, zygote_next}
 use Rattle.heap_world.specs.Pages.{pages_if_promoted}
 use Rattle.heap_world.proofs.Placed.{IsPlaced, young_end, zygote_top}
-use Rattle.heap_world.proofs.Totals.{total, total-filter, total-filter_le}
+use Rattle.heap_graph.proofs.Totals.{total-filter_le}
 
 -- those of all that are kept
 pub all-filter : {X : Type 0} (P : X → Type 0) (keep : X → Bool) (xs : List X) → AllByRecursion P xs → AllByRecursion P (filter keep xs)
@@ -66,7 +66,7 @@ module _ (cs : List Class) (keep : Object → Bool) (immune : (o : Object) → k
           let same : bytes + image_size cs o o.place ≡ bytes = omega (arith, no_image o e) in
           subst (λ n. FillImage cs n (filter keep os)) same rest
 
-  zygote-filter : (bytes : ℕ) (os : List Object) → FillZygote cs bytes os → FillZygote cs bytes (filter keep os)
+  pub zygote-filter : (bytes : ℕ) (os : List Object) → FillZygote cs bytes os → FillZygote cs bytes (filter keep os)
   zygote-filter bytes [] h = tt
   zygote-filter bytes (o ∷ os) h = by (keep o) refl (zygote-filter (zygote_next cs bytes o o.place) os h.1)
     where

@@ -1,5 +1,5 @@
 -- Promoted objects are placed.
-use Rattle.std.proofs.Common.{◌≡◌, ℕ, ◌+◌, ◌-◌, ◌≤◌, ◌⊎◌, Bool, true, false, true≢false, cond, inl, inr, List, [], ◌∷◌, map, filter, max, sum, refl, sym, ap, subst, ◌∙◌, arith}
+use Rattle.std.proofs.Common.{◌≡◌, ℕ, ◌+◌, ◌-◌, ◌≤◌, ◌⊎◌, true, true≢false, cond, inl, inr, List, [], ◌∷◌, map, filter, max, sum, refl, ap, ◌∙◌, arith}
 use Rattle.std.specs.List.{AllByRecursion}
 use Rattle.std.proofs.lemmas.List.Sums.{sum_by-cons}
 use Rattle.class_layout.specs.ClassList.{Class}
@@ -9,10 +9,10 @@ use Rattle.heap_graph.specs.declared.names.Place.TheVariants as place
 use Rattle.heap_graph.specs.Fork.{next_spot, promoted_from, promoted_place}
 use Rattle.heap_graph.specs.Graph.{Object, image_size, is_young, size_of_object}
 use Rattle.heap_graph.specs.Packing.{cost}
-use Rattle.heap_graph.specs.Sizes.{parts_for, zygote_base}
+use Rattle.heap_graph.specs.Sizes.{zygote_base}
 use Rattle.heap_world.specs.Formed.{AreInTurn, FillImage, FillZygote, IsBehindImage, IsBehindZygote, SuitsShape, turn, zygote_next}
 use Rattle.heap_world.proofs.Placed.{IsPlaced, young_end, young_next, zygote_top}
-use Rattle.heap_world.proofs.Totals.{total, total-promoted}
+use Rattle.heap_graph.proofs.Totals.{total, total-promoted}
 
 -- the bytes of a young object
 abbrev pub young_size : List Class → Object → Place → ℕ

@@ -1,5 +1,5 @@
 -- One more object is placed: in the image before the seal, and in the heap after it.
-use Rattle.std.proofs.Common.{◌≡◌, ℕ, ◌+◌, ◌-◌, ◌≤◌, Bool, true, false, true≢false, List, [], ◌∷◌, ◌++◌, refl, sym, ap, subst, ◌∙◌, arith}
+use Rattle.std.proofs.Common.{◌≡◌, ℕ, ◌+◌, ◌≤◌, Bool, true, false, true≢false, List, [], ◌∷◌, ◌++◌, refl, sym, ap, subst, ◌∙◌, arith}
 use Rattle.std.specs.List.{AllByRecursion}
 use Rattle.class_layout.specs.ClassList.{Class}
 use Rattle.heap_graph.specs.declared.names.Place.{Place}
@@ -8,9 +8,9 @@ use Rattle.heap_graph.specs.Graph.{Object, image_size, size_of_object}
 use Rattle.heap_graph.specs.Packing.{cost}
 use Rattle.heap_graph.specs.Sizes.{image_base, parts_for}
 use Rattle.heap_world.specs.Formed.{AreInTurn, FillImage, FillZygote, IsBehindImage, IsBehindZygote, SuitsShape, is_in_image, turn, zygote_next}
-use Rattle.heap_world.proofs.LaidOut.{all-push}
+use Rattle.heap_graph.proofs.LaidOut.{all-push}
 use Rattle.heap_world.proofs.Placed.{IsPlaced, young_end, young_next, zygote_top}
-use Rattle.heap_world.proofs.Totals.{total, total-push}
+use Rattle.heap_graph.proofs.Totals.{total, total-push}
 
 -- a turn is one of three
 turn-le : (at : Place) → turn at ≤ 2

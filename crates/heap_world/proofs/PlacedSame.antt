@@ -18,7 +18,7 @@ use Rattle.heap_world.specs.Acts.{stored_in, stored_in_if}
 use Rattle.heap_world.specs.Pages.{count_from, large_pages, pages_if_promoted}
 use Rattle.heap_world.specs.Formed.{AreInTurn, AreObjects, FillImage, FillZygote, IsBehindImage, IsBehindZygote, IsShape, SuitsShape, is_in_image, turn, zygote_next}
 use Rattle.heap_world.proofs.Placed.{IsPlaced, young_end, young_next, zygote_top}
-use Rattle.heap_world.proofs.Totals.{total}
+use Rattle.heap_graph.proofs.Totals.{total}
 
 -- an object with one class list, and one with another, have the same place and size
 pub record IsSame (cs ds : List Class) (o x : Object) : Type 0 where
@@ -144,7 +144,7 @@ module _ (cs ds : List Class) where
     subst (λ n. FillImage ds (bytes + n) xs) (sym (image_size-same cs ds o x same.0)) (image-same (bytes + image_size cs o o.place) os xs same.1 h.1),
   )
 
-  zygote-same : (bytes : ℕ) (os xs : List Object) → AreSame cs ds os xs → FillZygote cs bytes os → FillZygote ds bytes xs
+  pub zygote-same : (bytes : ℕ) (os xs : List Object) → AreSame cs ds os xs → FillZygote cs bytes os → FillZygote ds bytes xs
   zygote-same bytes [] [] same h = tt
   zygote-same bytes [] (x ∷ xs) same h = absurd same
   zygote-same bytes (o ∷ os) [] same h = absurd same

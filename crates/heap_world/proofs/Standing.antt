@@ -1,8 +1,7 @@
 -- The pages that stand: what changes them, and which page of an object is one of them.
-use Rattle.std.proofs.Common.{◌≡◌, ℕ, zero, suc, ◌+◌, ◌-◌, ◌*◌, ◌/◌, ◌<◌, ◌≤◌, ◌⊎◌, Bool, true, false, true≢false, ◌||◌, cond, inl, inr, List, [], ◌∷◌, ◌++◌, Option, None, Some, IfSome, map, filter, nat_eq, refl, sym, ap, subst, ◌∙◌, arith, append-nil}
-use Rattle.std.specs.List.{AllByRecursion, find, flat_map, list_any}
-use Rattle.std.proofs.lemmas.Bool.{cases_eq, eq-eqb, or_left, or_right}
-use Rattle.std.proofs.lemmas.Grind.{flat_map-append}
+use Rattle.std.proofs.Common.{◌≡◌, ℕ, zero, suc, ◌+◌, ◌-◌, ◌*◌, ◌/◌, ◌<◌, ◌≤◌, Bool, true, false, true≢false, cond, inl, inr, List, [], ◌∷◌, ◌++◌, Some, IfSome, map, nat_eq, sym, ap, subst, ◌∙◌, arith}
+use Rattle.std.specs.List.{AllByRecursion, find, flat_map}
+use Rattle.std.proofs.lemmas.Bool.{cases_eq, or_left, or_right}
 use Rattle.std.proofs.lemmas.List.Folds.{list_any-append}
 use Rattle.std.proofs.lemmas.Option.{same_Some, none-some}
 use Rattle.class_layout.specs.declared.kind.Kind.{Kind}
@@ -15,15 +14,15 @@ use Rattle.heap_graph.specs.declared.names.Place.TheVariants as place
 use Rattle.heap_graph.specs.declared.names.Shape.{Shape}
 use Rattle.heap_graph.specs.declared.names.Shape.TheVariants.{Instance, Array}
 use Rattle.heap_graph.specs.Graph.{Graph, Object, image_fill, image_size, is_immune, object_at, size_of_object, zygote_fill}
-use Rattle.heap_graph.specs.Sizes.{image_base, page_bytes, parts_for, unrounded, zygote_base}
+use Rattle.heap_graph.specs.Sizes.{parts_for, unrounded}
 use Rattle.heap_world.specs.declared.names.PageName.{PageName}
 use Rattle.heap_world.specs.declared.names.PageName.TheVariants.{Image, Zygote, Large}
 use Rattle.heap_world.specs.Formed.{IsFormed, FillImage, FillZygote, HasSlot, IsBehindImage, IsBehindZygote, zygote_next}
-use Rattle.heap_world.specs.Pages.{count_from, image_pages, is_touched, large_pages, page_in, pages_if_promoted, promoted_pages, same_page, standing_pages, zygote_pages}
+use Rattle.heap_world.specs.Pages.{count_from, image_pages, is_touched, page_in, pages_if_promoted, promoted_pages, same_page, standing_pages, zygote_pages}
 use Rattle.heap_world.proofs.Bounds.{page-refl}
-use Rattle.heap_world.proofs.LaidOut.{found-all, lie-within}
+use Rattle.heap_graph.proofs.LaidOut.{found-all, lie-within}
 use Rattle.heap_world.proofs.Placed.{fill-is, top-is, top-max, zygote_top}
-use Rattle.heap_world.proofs.Totals.{total}
+use Rattle.heap_graph.proofs.Totals.{total}
 
 -- graphs of the same fills and promoted pages have the same standing pages
 pub standing-is : (g h : Graph) → FillZygote g.classes 0 g.objects → FillZygote h.classes 0 h.objects

@@ -1,5 +1,5 @@
 -- What holds of the graph of each process, after every line.
-use Rattle.std.specs.Prelude.{◌≡◌, ℕ, ◌+◌, ◌-◌, ◌*◌, ◌<◌, ◌≤◌, ◌⊎◌, Bool, true, false, List, [], ◌∷◌, Some, length, nat_eq}
+use Rattle.std.specs.Prelude.{◌≡◌, ℕ, ◌+◌, ◌-◌, ◌*◌, ◌<◌, ◌≤◌, ◌⊎◌, Bool, true, false, ◌||◌, ◌&&◌, List, [], ◌∷◌, ◌++◌, Option, None, Some, length, nat_eq, slice_get, unwrap_or}
 use Rattle.std.specs.List.{list_any, AllByRecursion, IsDistinct}
 use Rattle.class_layout.specs.declared.kind.Kind.{Kind}
 use Rattle.class_layout.specs.declared.kind.FieldAt.{FieldAt}
@@ -55,6 +55,29 @@ FitsKind kind (slot.Object n) = is_ref kind ≡ true
 -- each stored value fits its slot
 abbrev pub HoldsValues : Object → Type 0
 HoldsValues o = AllByRecursion (λ s. FitsKind s.at.kind s.value) o.slots
+
+-- the superclass is class 1 or below it, given the same of the classes before
+abbrev pub has_weak_parent : List Bool → Option ℕ → Bool
+has_weak_parent done None = false
+has_weak_parent done (Some p) = unwrap_or (slice_get done p) false
+
+-- whether each class is class 1 or below it, given the same of the classes before
+abbrev pub weak_classes_after : List Bool → List Class → List Bool
+weak_classes_after done [] = done
+weak_classes_after done (c ∷ cs) = weak_classes_after (done ++ (nat_eq (length done) 1 || has_weak_parent done c.parent) ∷ []) cs
+
+-- the class of a number is that of weak references, or below it
+abbrev pub is_weak_class : List Class → ℕ → Bool
+is_weak_class cs k = unwrap_or (slice_get (weak_classes_after [] cs) k) false
+
+-- what stands at an offset of an object is the referent of a weak reference
+abbrev pub is_referent : List Class → Shape → ℕ → Bool
+is_referent cs (Instance class) offset = is_weak_class cs class && nat_eq offset 8
+is_referent cs (Array kind count) offset = false
+
+-- the referents alone are weak
+abbrev pub AreReferents : List Class → Object → Type 0
+AreReferents cs o = AllByRecursion (λ s. s.at.weak ≡ is_referent cs o.shape s.at.offset) o.slots
 
 abbrev pub is_in_image : Place → Bool
 is_in_image (place.Image spot) = true
@@ -132,6 +155,8 @@ pub record IsFormed (g : Graph) : Type 0 where
   pub root_names : IsDistinct (λ r s. same_name r.name s.name) g.roots
   -- each stored value fits its slot
   pub values : AllByRecursion HoldsValues g.objects
+  -- a stored slot is weak exactly where it is the referent of a weak reference
+  pub weak : AllByRecursion (AreReferents g.classes) g.objects
   -- before the seal every object stands in the image
   pub before_seal : g.sealed ≡ false → AllByRecursion (λ o. is_in_image o.place ≡ true) g.objects
   -- places outside the image are by shape

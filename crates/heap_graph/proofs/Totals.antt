@@ -19,6 +19,11 @@ pub total-push : (f : Object → ℕ) (os : List Object) (o : Object) → total 
 total-push f [] o = omega arith
 total-push f (x ∷ os) o = omega (arith, total-push f os o)
 
+-- changed objects that count the same
+pub total-map : (f : Object → ℕ) (change : Object → Object) → ((o : Object) → f (change o) ≡ f o) → (os : List Object) → total f (map change os) ≡ total f os
+total-map f change same [] = refl
+total-map f change same (o ∷ os) = omega (arith, same o, total-map f change same os)
+
 module _ (keep : Object → Bool) (f : Object → ℕ) where
   -- fewer objects
   pub total-filter_le : (os : List Object) → total f (filter keep os) ≤ total f os

@@ -1,5 +1,5 @@
 -- What holds of each layout: the header lies in it, and each of its fields.
-use Rattle.std.proofs.Common.{◌≡◌, ℕ, zero, suc, ◌+◌, ◌≤◌, Bool, true, false, cond, List, [], ◌∷◌, ◌++◌, Option, None, Some, filter, length, nat_eq, slice_get, unwrap_or, refl, sym, ap, subst, ◌∙◌, arith}
+use Rattle.std.proofs.Common.{◌≡◌, ℕ, zero, suc, ◌+◌, ◌≤◌, Bool, true, false, cond, List, [], ◌∷◌, ◌++◌, Option, None, Some, length, nat_eq, slice_get, unwrap_or, subst, arith}
 use Rattle.std.specs.List.{AllByRecursion, find}
 use Rattle.std.specs.Option.{option_map}
 use Rattle.std.proofs.lemmas.Option.{same_Some, none-some}
@@ -9,7 +9,7 @@ use Rattle.class_layout.specs.declared.kind.FieldAt.{FieldAt}
 use Rattle.class_layout.specs.declared.kind.FieldDecl.{FieldDecl}
 use Rattle.class_layout.specs.ClassList.{Class, inherited, layout_of, layouts, layouts_after}
 use Rattle.class_layout.specs.Kinds.{kind_bytes, next_multiple}
-use Rattle.class_layout.specs.Layout.{Laid, Placed, bare, field_named, in_layout_order, lay_out, place_field, place_fields}
+use Rattle.class_layout.specs.Layout.{Laid, Placed, bare, in_layout_order, lay_out, place_field, place_fields}
 use Rattle.class_layout.specs.Names.{same_name}
 
 -- all, with one more
@@ -48,7 +48,7 @@ module _ (P : Laid → Type 0) (first : P bare) (step : (weak : Bool) (laid : La
   each-layout cs k = all-at P (layouts cs) k bare first (layouts-keep [] cs tt)
 
 -- a field's place is not before the end that it follows
-multiple-le : (k : Kind) (p : ℕ) → p ≤ next_multiple (kind_bytes k) p
+pub multiple-le : (k : Kind) (p : ℕ) → p ≤ next_multiple (kind_bytes k) p
 multiple-le k p = elim k as (λ k. p ≤ next_multiple (kind_bytes k) p) [ Ref ↦ omega arith | _ ↦ omega arith ]
 
 -- the header and each field lie before the end
@@ -62,11 +62,10 @@ within-step : (weak : Bool) (laid : Laid) (f : FieldDecl) → LieWithin laid →
 within-step weak laid f h =
     let le = multiple-le f.kind laid.end in
     let offset : ℕ = next_multiple (kind_bytes f.kind) laid.end in
-    let more : (p : Placed) → p.at.offset + kind_bytes p.at.kind ≤ laid.end → p.at.offset + kind_bytes p.at.kind ≤ offset + kind_bytes f.kind = λ p e. omega (arith, le, e) in
-    (
+    let more : (p : Placed) → p.at.offset + kind_bytes p.at.kind ≤ laid.end → p.at.offset + kind_bytes p.at.kind ≤ offset + kind_bytes f.kind = λ p e. omega (arith, le, e) in (
       omega (arith, le, h.0),
       all-push (λ p. p.at.offset + kind_bytes p.at.kind ≤ offset + kind_bytes f.kind) laid.fields (record { name = f.name; at = record { kind = f.kind; offset = offset; weak = weak } })
-      (all-weaken _ _ more laid.fields h.1) (omega arith),
+          (all-weaken _ _ more laid.fields h.1) (omega arith),
     )
 
 pub lie-within : (cs : List Class) (k : ℕ) → LieWithin (layout_of cs k)
