@@ -1,4 +1,8 @@
 pub mod FirstPlaces
+pub mod FormedObjects
+pub mod Parts
+pub mod Prefixes
 pub mod Reaching
 pub mod RootLists
 pub mod Stores
+pub mod SpotLemmas

@@ -3,8 +3,11 @@
 #![tactic(auto)]
 
 mod collection;
+mod fills;
+mod fork;
 mod graph;
 mod object;
+mod packing;
 mod reach;
 mod roots;
 mod sizes;

@@ -23,7 +23,7 @@ impl Model for Object {
 
 impl Object {
     ghost use Rattle.std.specs.Prelude.{◌≡◌, IfOk, nat_eq};
-    ghost use Rattle.heap_graph.specs.Graph.{is_immune};
+    ghost use Rattle.heap_graph.specs.Graph.{is_immune, is_young};
     ghost use Rattle.heap_graph.specs.Values.{value_at};
     ghost use Rattle.heap_world.specs.Acts.{stored_in_if};
 
@@ -64,6 +64,13 @@ impl Object {
             Place::Zygote(_) | Place::Promoted => true,
             Place::Young | Place::Large => false,
         }
+    }
+
+    /// Whether the object stands in a region.
+    pub(crate) fn is_young(&self) -> bool
+        ensures { result ≡ is_young self.now.place }
+    {
+        self.place == Place::Young
     }
 
     /// What a field or an element holds: null or 0 where nothing was stored.

@@ -30,7 +30,8 @@ pub fn unrounded(classes: &Classes, shape: Shape) -> u64
 /// The bytes that an object takes: a multiple of 8.
 pub fn size_in(classes: &Classes, shape: Shape) -> u64
     requires { HasClass classes.now shape }
-    ensures { result ≡ size_in classes.now shape }
+    ensures value { result ≡ size_in classes.now shape }
+    ensures small { result < 2 ^ 37 }
 {
     unrounded(classes, shape).div_ceil(8) * 8
 }
