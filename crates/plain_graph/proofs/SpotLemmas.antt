@@ -1,11 +1,11 @@
 -- Spots of young objects, over the rest of a list as one more object is taken.
-use Rattle.std.proofs.Common.{◌≡◌, ℕ, suc, ◌+◌, ◌<◌, ◌≤◌, Bool, true, false, cond, List, [], ◌∷◌, length, get_or, drop, map, filter, sum, refl, sym, ap, ◌∙◌, arith, add-one, drop-cons}
+use Rattle.std.proofs.Common.{◌≡◌, ℕ, suc, ◌+◌, ◌<◌, ◌≤◌, cond, List, ◌∷◌, length, get_or, drop, map, filter, sum, refl, sym, ap, ◌∙◌, arith, add-one, drop-cons}
 use Rattle.std.proofs.lemmas.List.Sums.{sum-map, sum_by-cons}
 use Rattle.class_layout.specs.ClassList.{Class}
 use Rattle.heap_graph.specs.declared.names.Place.{Place}
 use Rattle.heap_graph.specs.declared.names.Place.TheVariants.{Image, Zygote, Young, Large, Promoted}
 use Rattle.heap_graph.specs.Graph.{Object, is_young, size_of_object}
-use Rattle.heap_graph.specs.Fork.{next_spot, promoted_from, promoted_place}
+use Rattle.heap_graph.specs.Fork.{next_spot}
 use Rattle.plain_graph.specs.Spots.{young_bytes}
 
 -- the rest of a list from an element on
