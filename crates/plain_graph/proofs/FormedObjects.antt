@@ -30,8 +30,8 @@ unrounded-le cs shape h = bytes_le (unrounded cs shape) (is_primitive_array shap
 rounded_le : (bytes : ℕ) → bytes ≤ 1048576 → next_multiple 8 bytes ≤ 1048576
 rounded_le bytes h = omega arith
 
-pub size_in-le : (cs : List Class) (shape : Shape) → is_too_large cs shape ≡ false → size_in cs shape ≤ 1048576
-size_in-le cs shape h = rounded_le (unrounded cs shape) (unrounded-le cs shape h)
+pub size_in_le : (cs : List Class) (shape : Shape) → is_too_large cs shape ≡ false → size_in cs shape ≤ 1048576
+size_in_le cs shape h = rounded_le (unrounded cs shape) (unrounded-le cs shape h)
 
 shape_at : (cs : List Class) (os : List Object) (i : ℕ) (d : Object) → AreObjects cs os → i < length os → IsShape cs (get_or os i d).shape
 shape_at cs [] i d h less = absurd (omega arith)
@@ -49,7 +49,7 @@ pub unrounded_small : (cs : List Class) (os : List Object) (i : ℕ) (o : Object
 unrounded_small cs os i o small less is = unrounded-le cs o.shape (small_of_shape cs o.shape (shape_of cs os i o small less is))
 
 pub size_small : (cs : List Class) (os : List Object) (i : ℕ) (o : Object) → AreSmall cs os → i < length os → o ≡ get_or os i o → size_of_object cs o ≤ 1048576
-size_small cs os i o small less is = size_in-le cs o.shape (small_of_shape cs o.shape (shape_of cs os i o small less is))
+size_small cs os i o small less is = size_in_le cs o.shape (small_of_shape cs o.shape (shape_of cs os i o small less is))
 
 rising_few : (low next : ℕ) (os : List Object) → AreRising low next os → low + length os ≤ next
 rising_few low next [] h = omega (arith, h)

@@ -1,3 +1,4 @@
+pub mod Collected
 pub mod FirstPlaces
 pub mod FormedObjects
 pub mod Parts

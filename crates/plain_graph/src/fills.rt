@@ -1,4 +1,4 @@
-ghost use Rattle.std.specs.Prelude.{◌≡◌, ◌^◌, ◌<◌, map, sum};
+ghost use Rattle.std.specs.Prelude.{◌≡◌, ◌*◌, ◌^◌, ◌<◌, ◌≤◌, length, map, sum};
 ghost use Rattle.heap_graph.specs.Graph.{greatest, image_fill, image_size, zygote_end, zygote_fill};
 ghost use Rattle.heap_world.specs.Formed.{IsFormed};
 ghost use Rattle.plain_graph.specs.Shapes.{AreSmall, HasClass};
@@ -16,7 +16,8 @@ impl Graph {
     #[tactic(auto, using(crate::proofs::FormedObjects::small_objects))]
     pub fn image_fill(&self) -> u64
         requires formed { IsFormed self.now }
-        ensures { result ≡ image_fill self.now }
+        ensures value { result ≡ image_fill self.now }
+        ensures small { result ≤ 1048576 * 268435456 }
     {
         image_bytes(self.classes(), self.objects())
     }
@@ -35,7 +36,8 @@ impl Graph {
 #[tactic(auto, using(crate::proofs::FormedObjects::small_objects))]
 fn image_bytes(classes: &Classes, objects: &[Object]) -> u64
     requires { AreSmall classes.now objects.now }
-    ensures { result ≡ sum (map (λ o. image_size classes.now o o.place) objects.now) }
+    ensures value { result ≡ sum (map (λ o. image_size classes.now o o.place) objects.now) }
+    ensures small { result ≤ 1048576 * length objects.now }
 {
     let mut fill = 0;
     for o in objects {

@@ -2,6 +2,7 @@
 //! It keeps no index, no cache and no page.
 #![tactic(auto)]
 
+mod allocation;
 mod collection;
 mod fills;
 mod fork;
@@ -13,6 +14,7 @@ mod roots;
 mod sizes;
 mod values;
 
+pub use allocation::Allocated;
 pub use graph::Graph;
 pub use object::Object;
 pub use sizes::{PAGE_BYTES, REGION_BYTES, is_large, is_ref, is_too_large, size_in, unrounded};

@@ -75,6 +75,7 @@ impl Graph {
 pub(crate) fn place(from: u64, size: u64) -> u64
     requires { from + size < 2 ^ 63 }
     ensures value { result ≡ place from size }
+    ensures behind { from ≤ result }
     ensures near { result ≤ from + 262143 }
 {
     if from / REGION_BYTES == (from + size).saturating_sub(1) / REGION_BYTES {
@@ -88,6 +89,7 @@ pub(crate) fn place(from: u64, size: u64) -> u64
 pub(crate) fn after(from: u64, size: u64) -> u64
     requires { from + size < 2 ^ 63 }
     ensures value { result ≡ after from size }
+    ensures behind { from ≤ result }
     ensures near { result ≤ from + 262143 + size }
 {
     place(from, size) + size
