@@ -53,10 +53,10 @@ MarksMade p root (allocated.Made h collected) = IsMarked (part_after collected p
 MarksMade p root (allocated.ImageFull fill size) = Unit {0}
 MarksMade p root (allocated.HeapFull h free needed) = IsMarked (with_collected p h)
 
-after_make_marks : (p : Part) (root : List ℕ) (a : Allocated) → IsMarked p → MarksMade p root a → Marks (after_make p root a)
-after_make_marks p root (allocated.Made h collected) marked m = m
-after_make_marks p root (allocated.ImageFull fill size) marked m = marked
-after_make_marks p root (allocated.HeapFull h free needed) marked m = m
+after_make_marks : (p : Part) (root : List ℕ) (shape : Shape) (a : Allocated) → IsMarked p → MarksMade p root a → Marks (after_make p root shape a)
+after_make_marks p root shape (allocated.Made h collected) marked m = m
+after_make_marks p root shape (allocated.ImageFull fill size) marked m = marked
+after_make_marks p root shape (allocated.HeapFull h free needed) marked m = m
 
 module _ (p : Part) (formed : IsFormed p.graph) (marked : IsMarked p) where
   -- the part's graph
@@ -94,7 +94,7 @@ module _ (p : Part) (formed : IsFormed p.graph) (marked : IsMarked p) where
         where
           by : (b : Bool) → Marks (make_numbered b p root shape slots)
           by true = marked
-          by false = after_make_marks p root (make g shape slots) marked (made_by g.sealed refl)
+          by false = after_make_marks p root shape (make g shape slots) marked (made_by g.sealed refl)
 
     shape_marks : (shape : Shape) → Marks (make_shape p root shape)
     shape_marks shape = by (is_too_large g.classes shape)

@@ -5,4 +5,5 @@ pub mod Parts
 pub mod Prefixes
 pub mod Reaching
 pub mod RootLists
+pub mod SpotLemmas
 pub mod Stores

@@ -1,3 +1,4 @@
 pub mod Allocated
 pub mod Reaching
 pub mod Shapes
+pub mod Spots

@@ -1,4 +1,4 @@
--- What slots and roots hold, one by one.
+-- What roots and immune objects hold.
 use Rattle.std.specs.Prelude.{ℕ, List, map, filter}
 use Rattle.std.specs.List.{flat_map}
 use Rattle.heap_graph.specs.declared.names.Root.{Root}

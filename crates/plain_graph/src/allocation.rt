@@ -14,15 +14,22 @@ use std::alloc::AllocError;
 
 // Where the image begins, and its bytes.
 const IMAGE_BASE: u64 = 0x2000_0000;
+
 const IMAGE_BYTES: u64 = 67_108_864;
 
 /// How the making of an object ends.
 #[derive(Drop)]
 pub enum Allocated {
     /// It was made, maybe after a collection.
-    Made { graph: Graph, collected: bool },
+    Made {
+        graph: Graph,
+        collected: bool,
+    },
     /// The image is full: the bytes of its objects, and those of the object that it had no room for.
-    ImageFull { fill: u64, size: u64 },
+    ImageFull {
+        fill: u64,
+        size: u64,
+    },
     /// The heap is full, also after a collection: the collected graph, the free regions, and those that the object
     /// needs.
     HeapFull {
@@ -138,12 +145,7 @@ impl Graph {
     }
 
     // The graph with one more object, under the next number.
-    fn with_object(
-        &self,
-        shape: Shape,
-        slots: &[Stored],
-        place: Place,
-    ) -> Result<Graph, AllocError>
+    fn with_object(&self, shape: Shape, slots: &[Stored], place: Place) -> Result<Graph, AllocError>
         requires few { self.now.next ≤ 268435456 }
         ensures { IfOk result (λ g. g ≡ with_object self.now shape slots.now place) }
     {

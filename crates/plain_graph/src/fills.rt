@@ -26,7 +26,8 @@ impl Graph {
     #[tactic(auto, using(crate::proofs::FormedObjects::small_objects))]
     pub fn zygote_fill(&self) -> u64
         requires formed { IsFormed self.now }
-        ensures { result ≡ zygote_fill self.now }
+        ensures value { result ≡ zygote_fill self.now }
+        ensures small { result < 2 ^ 38 }
     {
         greatest_end(self.classes(), self.objects())
     }
@@ -48,7 +49,8 @@ fn image_bytes(classes: &Classes, objects: &[Object]) -> u64
 #[tactic(auto, using(crate::proofs::FormedObjects::small_objects))]
 fn greatest_end(classes: &Classes, objects: &[Object]) -> u64
     requires { AreSmall classes.now objects.now }
-    ensures { result ≡ greatest (map (λ o. zygote_end classes.now o o.place) objects.now) }
+    ensures value { result ≡ greatest (map (λ o. zygote_end classes.now o o.place) objects.now) }
+    ensures small { result < 2 ^ 38 }
 {
     let mut fill = 0;
     for o in objects {
@@ -72,7 +74,8 @@ fn image_size(classes: &Classes, o: &Object) -> u64
 // Where an object of the zygote window ends, in bytes from the window's start; 0 for others.
 fn zygote_end(classes: &Classes, o: &Object) -> u64
     requires { HasClass classes.now o.now.shape }
-    ensures { result ≡ zygote_end classes.now o.now o.now.place }
+    ensures value { result ≡ zygote_end classes.now o.now o.now.place }
+    ensures small { result < 2 ^ 38 }
 {
     match o.place {
         Place::Zygote(spot) => {

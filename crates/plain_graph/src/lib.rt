@@ -5,6 +5,7 @@
 mod allocation;
 mod collection;
 mod fills;
+mod fork;
 mod graph;
 mod object;
 mod packing;

@@ -26,6 +26,7 @@ impl Model for Node {
 }
 
 impl Object {
+    // The object as reaching sees it.
     fn node(&self, alloc: Global, sealed: bool) -> Result<Node, AllocError>
         ensures { IfOk result (λ v. v ≡ reach.node_of sealed self.now) }
     {
@@ -47,6 +48,7 @@ impl Graph {
         reached_from(self.alloc, &nodes, &starts)
     }
 
+    // The objects as reaching sees them.
     fn nodes(&self) -> Result<Vec<Node>, AllocError>
         ensures { IfOk result (λ vs. vs.items ≡ reach.nodes self.now) }
     {
@@ -162,6 +164,7 @@ fn next_round(
     joined(alloc, nodes, from, &held)
 }
 
+// Whether two lists have the same numbers in the same order.
 fn are_same(ns: &[u32], ms: &[u32]) -> bool
     ensures { IsTrue result ↔ (ns.now ≡ ms.now) }
 {

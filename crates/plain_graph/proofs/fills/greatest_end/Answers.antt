@@ -6,4 +6,7 @@ use Rattle.plain_graph.proofs.fills.greatest_end.Goals as goal
 pub loop-o-preserved : goal.loop-o-preserved
 loop-o-preserved c =
     let cs = c.args.classes.now in
-    omega (arith, greatest_more (λ o. zygote_end cs o o.place) c.args.objects.now c.loop-o.o-index c.o-item.result c.loop-o-test.true c.o-item.is)
+    record {
+      so_far = omega (arith, greatest_more (λ o. zygote_end cs o o.place) c.args.objects.now c.loop-o.o-index c.o-item.result c.loop-o-test.true c.o-item.is);
+      small = omega arith;
+    }

@@ -1,4 +1,4 @@
-use Rattle.std.proofs.Common.{◌≡◌, ◌-◌, ◌≤◌, ◌++◌}
+use Rattle.std.proofs.Common.{◌≡◌, ◌-◌, ◌++◌}
 use Rattle.heap_world.specs.Pages.{count_from}
 use Rattle.plain_graph.proofs.packing.add_covered.Given as goal
 

@@ -1,0 +1,10 @@
+use Rattle.std.proofs.Common.{◌≡◌, ◌+◌, ◌*◌, ◌≤◌, drop}
+use Rattle.plain_graph.specs.Spots.{young_bytes}
+use Rattle.plain_graph.proofs.fork.young_bytes.Given as goal
+
+-- the bytes so far, at most 1,048,576 for each object, and those of the rest
+abbrev pub invariant-loop-o : goal.invariant-loop-o
+invariant-loop-o l = record {
+  so_far : l.bytes + young_bytes l.classes (drop l.o-index l.objects) ≡ young_bytes l.classes l.objects;
+  small : l.bytes ≤ 1048576 * l.o-index;
+}
