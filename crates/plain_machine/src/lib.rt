@@ -3,6 +3,7 @@
 #![tactic(auto)]
 
 mod cards;
+mod makes;
 mod outcome;
 mod pages;
 mod part;

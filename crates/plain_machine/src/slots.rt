@@ -15,7 +15,7 @@ use heap_world::Refusal;
 use plain_graph::{Object, is_ref};
 
 /// A root's reference as a slot.
-fn slot_of(held: Held) -> Slot
+pub(crate) fn slot_of(held: Held) -> Slot
     ensures { result ≡ values.slot_of held }
 {
     match held {
