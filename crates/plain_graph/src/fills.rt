@@ -8,7 +8,7 @@ use crate::{Graph, Object};
 use class_layout::Classes;
 use heap_graph::Place;
 
-/// Where the zygote window begins.
+// Where the zygote window begins.
 const ZYGOTE_BASE: u64 = 0x3000_0000;
 
 impl Graph {

@@ -95,6 +95,7 @@ pub(crate) fn after(from: u64, size: u64) -> u64
     place(from, size) + size
 }
 
+// The sizes of the young ones among the objects.
 #[tactic(auto, using(crate::proofs::FormedObjects::small_objects))]
 fn sizes_of_young(
     alloc: Global,
@@ -115,6 +116,7 @@ fn sizes_of_young(
     Ok(sizes)
 }
 
+// The end of the young ones among the objects.
 #[tactic(auto, using(crate::proofs::FormedObjects::small_objects))]
 fn end_of_young(classes: &Classes, objects: &[Object]) -> u64
     requires { AreSmall classes.now objects.now }
@@ -154,6 +156,7 @@ fn cost(classes: &Classes, o: &Object) -> u64
     }
 }
 
+// The pages that packed sizes cover, size by size.
 fn covered_pages(alloc: Global, sizes: &[u64]) -> Result<Vec<u64>, AllocError>
     requires small { All (λ s. s ≤ 1048576) sizes.now }
     requires few { length sizes.now ≤ 268435456 }

@@ -62,6 +62,7 @@ fn root_at<'a>(roots: &'a [Root], name: &Name) -> Option<&'a Root>
     roots.iter().find(|r| r.name == *name)
 }
 
+// The roots, where one holds something else.
 #[tactic(auto, using(crate::proofs::RootLists::writes))]
 fn written(alloc: Global, roots: &[Root], name: Name, holds: Held) -> Result<Vec<Root>, AllocError>
     ensures { IfOk result (λ v. v.items ≡ write_root roots.now name holds) }

@@ -23,8 +23,8 @@ pub(crate) fn value_at(stored: &[Stored], at: &FieldAt) -> Slot
     }
 }
 
-#[tactic(auto, using(crate::proofs::Stores::stores))]
 /// What was stored, with one more store: in the slot's old place, or last.
+#[tactic(auto, using(crate::proofs::Stores::stores))]
 pub(crate) fn with_stored(
     alloc: Global,
     stored: &[Stored],
