@@ -1,3 +1,4 @@
 pub mod Objects
+pub mod Collected
 pub mod Making
 pub mod PageLists

@@ -1,6 +1,8 @@
 -- Lists of numbers in a row, and of pages by them.
-use Rattle.std.proofs.Common.{◌≡◌, ℕ, zero, suc, ◌+◌, ◌-◌, ◌≤◌, List, [], ◌∷◌, ◌++◌, map, refl, sym, ap, ◌∙◌, arith}
-use Rattle.std.proofs.lemmas.List.{map-append}
+use Rattle.std.proofs.Common.{◌≡◌, ℕ, zero, suc, ◌+◌, ◌-◌, ◌≤◌, List, [], ◌∷◌, ◌++◌, Bool, count_by, length, map, refl, sym, ap, ◌∙◌, arith}
+use Rattle.std.proofs.lemmas.List.{length-map, map-append}
+use Rattle.std.proofs.lemmas.List.Sums.{count_by-le-length}
+use Rattle.heap_world.specs.declared.names.PageName.{PageName}
 use Rattle.heap_world.specs.Pages.{count_from}
 
 -- one more number in a row
@@ -26,3 +28,17 @@ row_more_from_0 f k =
     let a : k + 1 - 0 ≡ k + 1 = omega arith in
     let b : k - 0 ≡ k = omega arith in
     ap (λ n. map f (count_from 0 n)) (sym a) ∙ row_more f 0 k (omega arith) ∙ ap (λ n. map f (count_from 0 n) ++ f k ∷ []) b
+
+-- how many there are
+length-row : (s n : ℕ) → length (count_from s n) ≡ n
+length-row s zero = refl
+length-row s (suc n) = ap suc (length-row (s + 1) n)
+
+pub length_row : {X : Type 0} (f : ℕ → X) (s n : ℕ) → length (map f (count_from s n)) ≡ n
+length_row f s n = length-map (count_from s n) f ∙ length-row s n
+
+-- a count of pages of a kind is no more than all of them
+pub count_fewer : (p : PageName → Bool) (pages : List PageName) → count_by p pages ≤ length pages
+count_fewer p pages = count_by-le-length p pages
+
+pub ruleset counting = (length_row, count_fewer)

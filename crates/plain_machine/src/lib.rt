@@ -2,7 +2,9 @@
 //! stands for its world by equality.
 #![tactic(auto)]
 
+mod act;
 mod cards;
+mod lives;
 mod makes;
 mod outcome;
 mod pages;
