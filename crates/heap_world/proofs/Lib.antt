@@ -21,3 +21,4 @@ pub mod SoundParts
 pub mod Standing
 pub mod Steps
 pub mod Told
+pub mod ToldNames

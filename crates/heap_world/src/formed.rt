@@ -2,6 +2,8 @@
 ghost use Rattle.std.specs.Prelude.{◌≤◌, ℕ};
 ghost use Rattle.heap_graph.specs.Fork.{child_of};
 ghost use Rattle.heap_graph.specs.Graph.{Graph, first_graph};
+ghost use Rattle.heap_graph.specs.Packing.{places_from, young_sizes};
+ghost use Rattle.heap_graph.specs.Paths.{ArePacked};
 ghost use Rattle.heap_world.specs.Acts.{act};
 ghost use Rattle.heap_world.specs.Formed.{HasFewFields, IsFormed};
 ghost use Rattle.heap_world.specs.Part.{Part};
@@ -12,4 +14,9 @@ pub fn graphs_are_formed()
     ensures first { (budget number : ℕ) → budget ≤ 512 → number ≤ 268435456 → IsFormed (first_graph budget number) }
     ensures act { (p : Part) (v : Verb) → HasFewFields v → IsFormed p.graph → IsFormed (act p v).part.graph }
     ensures child { (g : Graph) → IsFormed g → IsFormed (child_of g) }
+{}
+
+/// The young objects of a formed graph lie in one region each, rise and don't overlap.
+pub fn formed_graphs_are_packed()
+    ensures { (g : Graph) → IsFormed g → ArePacked 0 (young_sizes g) (places_from 0 (young_sizes g)) }
 {}
