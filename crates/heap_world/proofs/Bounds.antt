@@ -1,29 +1,27 @@
 -- How large what a formed graph holds can be.
-use Rattle.std.proofs.Common.{◌≡◌, ℕ, zero, suc, ◌+◌, ◌-◌, ◌*◌, ◌/◌, ◌<◌, ◌≤◌, Bool, true, false, inl, inr, not, List, [], ◌∷◌, ◌++◌, length, length-append, sum, nat_eq, nat_le, All, refl, sym, ap, subst, ◌∙◌, arith}
+use Rattle.std.proofs.Common.{◌≡◌, ℕ, zero, suc, ◌+◌, ◌*◌, ◌<◌, ◌≤◌, Bool, true, false, cond, inl, inr, List, [], ◌∷◌, ◌++◌, filter, length, length-append, sum, nat_eq, All, refl, sym, ap, subst, ◌∙◌, arith}
 use Rattle.std.specs.List.{AllByRecursion, flat_map}
 use Rattle.std.specs.Cmp.{IsEquivalence}
-use Rattle.std.proofs.lemmas.Bool.{leb-true, eqb-true, eq-eqb, and_parts, and_from, or_cases}
+use Rattle.std.proofs.lemmas.Bool.{eqb-true, eq-eqb, and_parts, and_from, or_cases}
 use Rattle.std.proofs.lemmas.Map.Made.{length-le_from_is_member}
 use Rattle.std.proofs.lemmas.List.{length-map}
 use Rattle.std.proofs.lemmas.List.Sums.{sum_by-cons}
-use Rattle.class_layout.specs.declared.kind.Kind.{Kind}
-use Rattle.class_layout.specs.declared.kind.Kind.TheVariants.{Ref}
 use Rattle.class_layout.specs.ClassList.{Class}
-use Rattle.class_layout.specs.Kinds.{array_end}
 use Rattle.heap_graph.specs.declared.names.Place.{Place}
 use Rattle.heap_graph.specs.declared.names.Place.TheVariants as place
 use Rattle.heap_graph.specs.declared.names.Shape.{Shape}
 use Rattle.heap_graph.specs.declared.names.Shape.TheVariants.{Instance, Array}
-use Rattle.heap_graph.specs.Graph.{Graph, Object, image_fill, image_size, size_of_object, zygote_fill}
-use Rattle.heap_graph.specs.Packing.{after, cost, end_from, place_if, young_sizes}
-use Rattle.heap_graph.specs.Sizes.{is_primitive_array, is_too_large, most_bytes, parts_for, unrounded}
-use Rattle.heap_world.specs.Formed.{IsFormed, AreObjects, FillZygote, IsBehindZygote, IsShape, zygote_next}
+use Rattle.heap_graph.specs.Graph.{Graph, Object, image_fill, image_size, is_young, size_of_object, zygote_fill}
+use Rattle.heap_graph.specs.Packing.{after, cost, end_from, places_from, young_sizes}
+use Rattle.heap_graph.specs.Paths.{ArePacked, FitsRegion}
+use Rattle.heap_graph.specs.Sizes.{is_too_large, parts_for, unrounded}
+use Rattle.heap_world.specs.Formed.{IsFormed, AreObjects, FillZygote, IsBehindZygote, IsShape, SuitsShape, zygote_next}
 use Rattle.heap_world.specs.declared.names.PageName.{PageName}
 use Rattle.heap_world.specs.declared.names.PageName.TheVariants.{Image, Zygote, Large}
 use Rattle.heap_world.specs.Pages.{count_from, image_pages, is_touched, large_pages, pages_if_promoted, promoted_pages, same_page, standing_pages, zygote_pages}
 use Rattle.heap_world.specs.Part.{Part}
 use Rattle.heap_world.specs.Sound.{IsSound}
-use Rattle.heap_graph.proofs.Sizes.{after-above, not-large, size-least, unrounded-least}
+use Rattle.heap_graph.proofs.Sizes.{after-above, not-large, size-least, unrounded-least, young-packed}
 use Rattle.heap_world.proofs.Placed.{costs-is, placed_of, young_end, young_next, zygote_top}
 use Rattle.heap_graph.proofs.Totals.{total}
 
@@ -70,6 +68,26 @@ pub bytes-le : (cs : List Class) (os : List Object) → AreObjects cs os → All
 bytes-le cs [] h k d less = absurd (omega arith)
 bytes-le cs (o ∷ os) h zero d less = shape-bytes cs o.shape h.0
 bytes-le cs (o ∷ os) h (suc k) d less = bytes-le cs os h.2 k d (omega arith)
+
+-- a young object's shape stands in a region
+young-fits : (cs : List Class) (os : List Object) → AreObjects cs os → AllByRecursion (λ o. SuitsShape cs o o.place) os → AllByRecursion (λ o. FitsRegion cs o.shape) (filter (λ o. is_young o.place) os)
+young-fits cs [] h suits = tt
+young-fits cs (o ∷ os) h suits = by o.place suits.0 (young-fits cs os h.2 suits.1)
+  where
+    small : (shape : Shape) → IsShape cs shape → is_too_large cs shape ≡ false
+    small (Instance class) is = is.1
+    small (Array kind count) is = is
+
+    by : (at : Place) → SuitsShape cs o at → AllByRecursion (λ o. FitsRegion cs o.shape) (filter (λ o. is_young o.place) os)
+        → AllByRecursion (λ o. FitsRegion cs o.shape) (cond (is_young at) (o ∷ filter (λ o. is_young o.place) os) (filter (λ o. is_young o.place) os))
+    by (place.Image spot) suits rest = rest
+    by (place.Zygote spot) suits rest = rest
+    by place.Young suits rest = ((small o.shape h.0, suits), rest)
+    by place.Large suits rest = rest
+    by place.Promoted suits rest = rest
+
+pub formed-packed : (g : Graph) → IsFormed g → ArePacked 0 (young_sizes g) (places_from 0 (young_sizes g))
+formed-packed g formed = young-packed g (young-fits g.classes g.objects formed.objects formed.places)
 
 -- as many numbers as are counted
 pub length-count : (start n : ℕ) → length (count_from start n) ≡ n

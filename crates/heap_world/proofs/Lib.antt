@@ -9,6 +9,7 @@ pub mod FormedNumbers
 pub mod FormedSlots
 pub mod FormedStores
 pub mod FormedValues
+pub mod Noted
 pub mod Placed
 pub mod PlacedFilter
 pub mod PlacedFork
@@ -21,3 +22,4 @@ pub mod SoundParts
 pub mod Standing
 pub mod Steps
 pub mod Told
+pub mod ToldNames

@@ -1,7 +1,7 @@
 -- What is marked in a process, apart from its graph: the touched pages, and the noted cards.
-use Rattle.std.proofs.Common.{◌≡◌, ℕ, ◌+◌, Bool, true, false, true≢false, List, [], ◌∷◌, ◌++◌, Option, None, Some, IfSome, filter, refl, sym, ap, subst, ◌∙◌, arith, append-nil}
+use Rattle.std.proofs.Common.{◌≡◌, ℕ, ◌+◌, Bool, true, false, true≢false, ◌||◌, inl, inr, List, [], ◌∷◌, ◌++◌, Option, None, Some, IfSome, filter, refl, sym, ap, subst, ◌∙◌, arith, append-nil}
 use Rattle.std.specs.List.{AllByRecursion, IsDistinct, flat_map, list_any}
-use Rattle.std.proofs.lemmas.Bool.{or_parts}
+use Rattle.std.proofs.lemmas.Bool.{or_cases, or_left, or_parts, or_right}
 use Rattle.std.proofs.lemmas.Grind.{flat_map-append}
 use Rattle.class_layout.specs.declared.kind.FieldAt.{FieldAt}
 use Rattle.class_layout.specs.ClassList.{Class}
@@ -10,6 +10,7 @@ use Rattle.heap_graph.specs.declared.names.Place.{Place}
 use Rattle.heap_graph.specs.declared.names.Place.TheVariants as place
 use Rattle.heap_graph.specs.declared.names.Shape.{Shape}
 use Rattle.heap_graph.specs.declared.names.Slot.{Slot}
+use Rattle.heap_graph.specs.declared.names.Slot.TheVariants as slot
 use Rattle.heap_graph.specs.declared.names.Stored.{Stored}
 use Rattle.heap_graph.specs.Allocation.{heap_place, with_heap_object}
 use Rattle.heap_graph.specs.Collection.{collect, is_kept}
@@ -20,18 +21,20 @@ use Rattle.heap_graph.specs.Sizes.{is_large}
 use Rattle.heap_world.specs.declared.names.Card.{Card}
 use Rattle.heap_world.specs.declared.names.PageName.{PageName}
 use Rattle.heap_world.specs.Acts.{first_if, first_touch, store_effect, store, stored_cards_if, with_slot}
-use Rattle.heap_world.specs.Cards.{add_card, add_card_if, add_cards, cards_in, is_card_among, object_cards, same_card}
-use Rattle.heap_world.specs.Formed.{IsFormed, FillZygote, HasSlot, IsBehindZygote, is_in_image, zygote_next}
+use Rattle.heap_world.specs.Cards.{add_card, add_card_if, add_cards, cards_in, held_cards, is_card_among, is_outward, outward_cards, same_card}
+use Rattle.heap_world.specs.Formed.{IsFormed, FillZygote, FitsKind, HasSlot, IsBehindZygote, is_in_image, zygote_next}
 use Rattle.heap_world.specs.Pages.{is_touched, page_in, pages_if_promoted, same_page, standing_pages}
-use Rattle.heap_world.specs.Part.{Part, with_collected}
+use Rattle.heap_world.specs.Part.{Part, is_noted, with_collected}
 use Rattle.heap_world.specs.Sound.{IsSound}
 use Rattle.heap_world.proofs.FormedDefine.{IsGrown}
 use Rattle.heap_world.proofs.FormedKept.{loose-dropped}
+use Rattle.heap_world.proofs.Noted.{has-cards, outward-stored, stays-cards}
 use Rattle.heap_world.proofs.Placed.{zygote_top}
 use Rattle.heap_world.proofs.PlacedFilter.{no_image, pages-filter, top-filter, zygote-filter}
 use Rattle.heap_world.proofs.PlacedPush.{top-push, zygote-push}
 use Rattle.heap_world.proofs.PlacedSame.{AreSame, all_pages-same, cleared-same, grown-same, image_size-same, stored-same, top-same, total-same, zygote-same}
 use Rattle.heap_world.proofs.Standing.{object-all, slot-stands, standing-is}
+use Rattle.heap_graph.proofs.LaidOut.{all-weaken}
 use Rattle.heap_graph.proofs.Totals.{total-filter, total-push}
 
 -- what a sound part says, but for its graph
@@ -41,6 +44,7 @@ pub record IsMarked (p : Part) : Type 0 where
   pub touched_once : IsDistinct same_page p.touched
   pub stored_once : IsDistinct same_card p.stored
   pub held_once : IsDistinct same_card p.held
+  pub outward_noted : AllByRecursion (λ card. is_noted p card ≡ true) (outward_cards p.graph)
 
 pub marked_of : (p : Part) → IsSound p → IsMarked p
 marked_of p sound = record {
@@ -49,6 +53,7 @@ marked_of p sound = record {
   touched_once = sound.touched_once;
   stored_once = sound.stored_once;
   held_once = sound.held_once;
+  outward_noted = sound.outward_noted;
 }
 
 pub sound_from : (p : Part) → IsFormed p.graph → IsMarked p → IsSound p
@@ -59,6 +64,7 @@ sound_from p formed marked = record {
   touched_once = marked.touched_once;
   stored_once = marked.stored_once;
   held_once = marked.held_once;
+  outward_noted = marked.outward_noted;
 }
 
 -- where no element passes, each fails
@@ -90,43 +96,49 @@ distinct-cards [] cards d = d
 distinct-cards (c ∷ more) cards d = distinct-card c (add_cards more cards) (distinct-cards more cards d)
 
 -- another graph in which the same pages stand
-pub marked-graph : (p : Part) (g : Graph) → g.sealed ≡ p.graph.sealed → standing_pages g ≡ standing_pages p.graph → IsMarked p → IsMarked (record p { graph = g })
-marked-graph p g sealed same m = record {
+pub marked-graph : (p : Part) (g : Graph) → g.sealed ≡ p.graph.sealed → standing_pages g ≡ standing_pages p.graph → AllByRecursion (λ card. is_noted p card ≡ true) (outward_cards g) → IsMarked p
+    → IsMarked (record p { graph = g })
+marked-graph p g sealed same noted m = record {
   before_seal = λ e. m.before_seal (sym sealed ∙ e);
   touched_stand = subst (λ ps. AllByRecursion (λ page. is_touched ps page ≡ true) p.touched) (sym same) m.touched_stand;
   touched_once = m.touched_once;
   stored_once = m.stored_once;
   held_once = m.held_once;
+  outward_noted = noted;
 }
 
 -- before the seal, any graph
-pub marked-unsealed : (p : Part) (g : Graph) → p.graph.sealed ≡ false → IsMarked p → IsMarked (record p { graph = g })
-marked-unsealed p g unsealed m = record {
+pub marked-unsealed : (p : Part) (g : Graph) → p.graph.sealed ≡ false → AllByRecursion (λ card. is_noted p card ≡ true) (outward_cards g) → IsMarked p → IsMarked (record p { graph = g })
+marked-unsealed p g unsealed noted m = record {
   before_seal = λ e. m.before_seal unsealed;
   touched_stand = subst (λ ps. AllByRecursion (λ page. is_touched (standing_pages g) page ≡ true) ps) (sym (m.before_seal unsealed)) tt;
   touched_once = m.touched_once;
   stored_once = m.stored_once;
   held_once = m.held_once;
+  outward_noted = noted;
 }
 
 -- after a collection
-pub marked-collected : (p : Part) (g : Graph) → g.sealed ≡ p.graph.sealed → standing_pages g ≡ standing_pages p.graph → IsMarked p → IsMarked (with_collected p g)
-marked-collected p g sealed same m = record {
+pub marked-collected : (p : Part) (g : Graph) → g.sealed ≡ p.graph.sealed → standing_pages g ≡ standing_pages p.graph
+    → AllByRecursion (λ card. is_card_among (held_cards p.graph) card ≡ true) (outward_cards g) → IsMarked p → IsMarked (with_collected p g)
+marked-collected p g sealed same noted m = record {
   before_seal = λ e. m.before_seal (sym sealed ∙ e);
   touched_stand = subst (λ ps. AllByRecursion (λ page. is_touched ps page ≡ true) p.touched) (sym same) m.touched_stand;
   touched_once = m.touched_once;
   stored_once = distinct-none same_card;
-  held_once = distinct-cards (flat_map (λ o. object_cards p.graph (is_immune p.graph.sealed o.place) o) p.graph.objects) [] (distinct-none same_card);
+  held_once = distinct-cards (outward_cards p.graph) [] (distinct-none same_card);
+  outward_noted = noted;
 }
 
 -- nothing is marked
-pub marked-none : (p : Part) → p.touched ≡ [] → IsDistinct same_card p.stored → IsDistinct same_card p.held → IsMarked p
-marked-none p none stored held = record {
+pub marked-none : (p : Part) → p.touched ≡ [] → IsDistinct same_card p.stored → IsDistinct same_card p.held → AllByRecursion (λ card. is_noted p card ≡ true) (outward_cards p.graph) → IsMarked p
+marked-none p none stored held noted = record {
   before_seal = λ e. none;
   touched_stand = subst (λ ps. AllByRecursion (λ page. is_touched (standing_pages p.graph) page ≡ true) ps) (sym none) tt;
   touched_once = subst (λ ps. IsDistinct same_page ps) (sym none) (distinct-none same_page);
   stored_once = stored;
   held_once = held;
+  outward_noted = noted;
 }
 
 -- the same pages stand where objects have the same places and sizes
@@ -213,9 +225,39 @@ touch-once touched (Some page) d = by (is_touched touched page) refl
     by true e = d
     by false e = distinct-more same_page touched page e d
 
+-- the cards that are noted after a store
+module _ (p : Part) (o : Object) (s : FieldAt) where
+  abbrev added : List Card
+  added = stored_cards_if (is_ref s.kind) (cards_in o.place s.offset)
+
+  abbrev IsStored : Card → Type 0
+  IsStored card = (is_card_among (add_cards added p.stored) card || is_card_among p.held card) ≡ true
+
+  -- what was noted is noted
+  noted_more : (card : Card) → is_noted p card ≡ true → IsStored card
+  noted_more card h =
+      elim (or_cases (is_card_among p.stored card) (is_card_among p.held card) h) [
+        | inl stored ↦ or_left (is_card_among (add_cards added p.stored) card) (is_card_among p.held card) (stays-cards added card p.stored stored)
+        | inr held ↦ or_right (is_card_among (add_cards added p.stored) card) (is_card_among p.held card) held
+      ]
+
+  -- so is the card of a reference that is stored
+  stored_noted : is_ref s.kind ≡ true → AllByRecursion IsStored (cards_in o.place s.offset)
+  stored_noted e =
+      let cards : List Card = cards_in o.place s.offset in
+      let is : added ≡ cards = ap (λ b. stored_cards_if b cards) e in
+      let all : AllByRecursion (λ card. is_card_among (add_cards added p.stored) card ≡ true) cards = subst (λ cs. AllByRecursion (λ card. is_card_among (add_cards cs p.stored) card ≡ true) cards) (sym is) (has-cards cards p.stored) in
+      all-weaken _ IsStored (λ card h. or_left (is_card_among (add_cards added p.stored) card) (is_card_among p.held card) h) cards all
+
+  outward_noted : (v : Slot) → FitsKind s.kind v → is_outward p.graph v ≡ true → AllByRecursion IsStored (cards_in o.place s.offset)
+  outward_noted (slot.Number z) fits out = absurd (true≢false (sym out))
+  outward_noted slot.Null fits out = absurd (true≢false (sym out))
+  outward_noted (slot.Object n) fits out = stored_noted fits
+
 -- a store
-pub store_marked : (p : Part) (o : Object) (s : FieldAt) (v : Slot) → IsFormed p.graph → object_at p.graph o.number ≡ Some o → HasSlot p.graph.classes o.shape s → IsMarked p → IsMarked (store p o s v).part
-store_marked p o s v formed found has m = by (is_immune p.graph.sealed o.place) refl
+pub store_marked : (p : Part) (o : Object) (s : FieldAt) (v : Slot) → IsFormed p.graph → object_at p.graph o.number ≡ Some o → HasSlot p.graph.classes o.shape s → FitsKind s.kind v → IsMarked p
+    → IsMarked (store p o s v).part
+store_marked p o s v formed found has fits m = by (is_immune p.graph.sealed o.place) refl
   where
     -- before the seal no object is immune
     no_immune : (at : Place) → p.graph.sealed ≡ false → is_immune p.graph.sealed at ≡ true → is_in_image at ≡ true → ⊥
@@ -226,7 +268,11 @@ store_marked p o s v formed found has m = by (is_immune p.graph.sealed o.place) 
     no_immune place.Promoted unsealed immune image = true≢false (sym image)
 
     by : (b : Bool) → is_immune p.graph.sealed o.place ≡ b → IsMarked (store_effect b p (with_slot p.graph o.number (record { at = s; value = v })) o s).part
-    by false e = marked-graph p (with_slot p.graph o.number (record { at = s; value = v })) refl (standing-stored p.graph o.number (record { at = s; value = v }) formed) m
+    by false e =
+        marked-graph p (with_slot p.graph o.number (record { at = s; value = v })) refl (standing-stored p.graph o.number (record { at = s; value = v }) formed)
+        (outward-stored (λ card. is_noted p card ≡ true) (λ card. is_noted p card ≡ true) (λ card h. h) p.graph o.number (record { at = s; value = v }) o formed.numbers found
+        (λ immune out. absurd (true≢false (sym immune ∙ e))) m.outward_noted)
+        m
     by true e =
         let same = standing-stored p.graph o.number (record { at = s; value = v }) formed in
         record {
@@ -236,4 +282,6 @@ store_marked p o s v formed found has m = by (is_immune p.graph.sealed o.place) 
           touched_once = touch-once p.touched (page_in o o.place s.offset) m.touched_once;
           stored_once = distinct-cards (stored_cards_if (is_ref s.kind) (cards_in o.place s.offset)) p.stored m.stored_once;
           held_once = m.held_once;
+          outward_noted = outward-stored (λ card. is_noted p card ≡ true) (IsStored p o s) (noted_more p o s) p.graph o.number (record { at = s; value = v }) o formed.numbers found
+              (λ immune out. outward_noted p o s v fits out) m.outward_noted;
         }

@@ -63,6 +63,10 @@ abbrev pub object_cards : Graph → Bool → Object → List Card
 object_cards g true o = slot_cards g o.place o.slots
 object_cards g false o = []
 
--- the cards in which an immune slot holds an object that isn't immune
+-- the card of each immune slot that holds an object that isn't immune
+abbrev pub outward_cards : Graph → List Card
+outward_cards g = flat_map (λ o. object_cards g (is_immune g.sealed o.place) o) g.objects
+
+-- each of these cards once
 abbrev pub held_cards : Graph → List Card
-held_cards g = add_cards (flat_map (λ o. object_cards g (is_immune g.sealed o.place) o) g.objects) []
+held_cards g = add_cards (outward_cards g) []

@@ -1,5 +1,5 @@
 //! Laws above the definitions: what they say, in other words.
-ghost use Rattle.std.specs.Prelude.{◌≡◌, ℕ, List, Some, false, IfSome};
+ghost use Rattle.std.specs.Prelude.{◌≡◌, ℕ, List, Some, false, IfSome, map};
 ghost use Rattle.class_layout.specs.Names.{same_name};
 ghost use Rattle.heap_world.specs.declared.command.Command.{Command};
 ghost use Rattle.heap_world.specs.declared.reply.Reply.{Reply};
@@ -23,9 +23,12 @@ pub fn a_child_is_its_parent()
 {}
 
 /// Without a fork that is refused since its name is taken, each process answers and is what its own lines alone
-/// make of it, but for the counts of all processes' frames.
+/// make of it, but for the counts of all processes' frames. What they were told is listed in the order of processes.
 pub fn processes_are_isolated()
-    ensures { (budget number : ℕ) (lines : List Line) →
+    ensures alone { (budget number : ℕ) (lines : List Line) →
         let start = first_world budget number in
         NoNameTaken (answers start lines) → AreAlone start (world_after start lines) (told_after start first_told lines) }
+    ensures names { (budget number : ℕ) (lines : List Line) →
+        let start = first_world budget number in
+        map (λ t. t.name) (told_after start first_told lines) ≡ map (λ q. q.name) (world_after start lines).processes }
 {}
