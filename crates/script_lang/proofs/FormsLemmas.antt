@@ -31,12 +31,15 @@ decl_of-cut word name rest h = ap decl_of_parts h ∙ by_kind (kind_of rest) ref
     each Short = refl
     each Int = refl
     each Long = refl
+
     nothing : (o : Option (List ℕ)) → None ≡ declared_of o None
     nothing None = refl
     nothing (Some n) = refl
+
     by_rest : (p : List ℕ) (ps : List (List ℕ)) → parts (is_byte 58) rest ≡ p ∷ ps → kind_of rest ≡ None → decl_of_parts (name ∷ p ∷ ps) ≡ declared_of (field_of name) None
     by_rest p [] e none = ap (declared_of (field_of name)) (ap kind_of (parts-one (is_byte 58) rest p e) ∙ none)
     by_rest p (q ∷ qs) e none = nothing (field_of name)
+
     by_kind : (o : Option Kind) → kind_of rest ≡ o → decl_of_parts (name ∷ parts (is_byte 58) rest) ≡ declared_of (field_of name) o
     by_kind (Some k) e = ap (λ (r : List ℕ). decl_of_parts (name ∷ parts (is_byte 58) r)) (kind_is_named rest kinds k e) ∙ each k
     by_kind None e =

@@ -47,10 +47,12 @@ number_up_to-digits limit word small some first = by_size (nat_le (digits_number
   where
     n : ℕ
     n = digits_number word
+
     by_digits : (b : Bool) → list_all is_digit word ≡ b → n ≤ limit → list_all is_digit word ≡ same_name (decimal n) word
     by_digits true e h = e ∙ sym (same (decimal n) word (decimal-digits_value own word e some first (omega arith)))
     by_digits false e h =
         e ∙ sym (differs (decimal n) word (λ p. false≢true (sym e ∙ subst (λ (x : List ℕ). list_all is_digit x ≡ true) p (digits_decimal own n (omega arith)))))
+
     by_size : (b : Bool) → nat_le n limit ≡ b → digits_up_to limit word ≡ number_up_to limit word
     by_size true e = ap (λ (b : Bool). cond (b && nat_le n limit) (Some n) None) (by_digits (list_all is_digit word) refl (leb-true n limit e))
     by_size false e = too_large (list_all is_digit word) (nat_le n limit) e ∙ sym (too_large (same_name (decimal n) word) (nat_le n limit) e)
@@ -92,6 +94,7 @@ number_up_to-less limit more word h = by_text (same_name (decimal (digits_number
   where
     n : ℕ
     n = digits_number word
+
     by_size : (b : Bool) → nat_le n limit ≡ b → cond (nat_le n limit) (Some n) None ≡ if_up_to limit (cond (nat_le n more) (Some n) None)
     by_size true e = sym (ap (λ (b : Bool). if_up_to limit (cond b (Some n) None)) (le-leb n more (let small = leb-true n limit e in omega arith)))
     by_size false e = ap (λ (b : Bool). cond b (Some n) None) e ∙ sym (above (nat_le n more))
@@ -99,6 +102,7 @@ number_up_to-less limit more word h = by_text (same_name (decimal (digits_number
         above : (b : Bool) → if_up_to limit (cond b (Some n) None) ≡ None
         above true = ap (λ (b : Bool). cond b (Some n) None) e
         above false = refl
+
     by_text : (b : Bool) → cond (b && nat_le n limit) (Some n) None ≡ if_up_to limit (cond (b && nat_le n more) (Some n) None)
     by_text true = by_size (nat_le n limit) refl
     by_text false = refl
@@ -118,8 +122,10 @@ number_up_to-zero limit bs small some = by_size (nat_le n limit) refl
   where
     word : List ℕ
     word = 48 ∷ bs
+
     n : ℕ
     n = digits_number (48 ∷ bs)
+
     other : n < 2 ^ 64 → decimal n ≡ 48 ∷ bs → ⊥
     other fits e = by_value (nat_le n 0) refl
       where
@@ -131,6 +137,7 @@ number_up_to-zero limit bs small some = by_size (nat_le n limit) refl
         by_value false z =
             let positive : 0 < n = leb-false n 0 z in
             omega (arith, first_decimal n positive fits, ap (λ (ds : List ℕ). get_or ds 0 0) e)
+
     by_size : (b : Bool) → nat_le n limit ≡ b → None ≡ number_up_to limit (48 ∷ bs)
     by_size true e =
         let fits : n < 2 ^ 64 = (let low = leb-true n limit e in omega arith) in
@@ -152,9 +159,11 @@ number_of-below bs = by_size (digits_number bs)
   where
     zero_text : same_name (decimal 0) (45 ∷ bs) ≡ false
     zero_text = ap (λ (ds : List ℕ). same_name ds (45 ∷ bs)) (decimal_digit 0 (omega arith))
+
     no_zero : (b : Bool) → None ≡ negated (cond b (Some 0) None)
     no_zero true = refl
     no_zero false = refl
+
     small : (m : ℕ) (b : Bool) → nat_le m 9223372036854775807 ≡ b → cond (nat_le m 9223372036854775807 && true) (Some (negsuc m)) None ≡ negated (cond (nat_le (suc m) 18446744073709551615) (Some (suc m)) None)
     small m true e =
         let low = leb-true m 9223372036854775807 e in
@@ -166,9 +175,11 @@ number_of-below bs = by_size (digits_number bs)
         above : (b : Bool) → negated (cond b (Some (suc m)) None) ≡ None
         above true = ap (λ (b : Bool). cond b (Some (negsuc m)) None) e
         above false = refl
+
     by_text : (m : ℕ) (b : Bool) → cond (b && (nat_le m 9223372036854775807 && true)) (Some (negsuc m)) None ≡ negated (cond (b && nat_le (suc m) 18446744073709551615) (Some (suc m)) None)
     by_text m true = small m (nat_le m 9223372036854775807) refl
     by_text m false = refl
+
     by_size : (n : ℕ) → cond (same_name (signed_decimal (neg_ℤ (pos n))) (45 ∷ bs) && in_range Long (neg_ℤ (pos n))) (Some (neg_ℤ (pos n))) None ≡ negated (cond (same_name (decimal n) bs && nat_le n 18446744073709551615) (Some n) None)
     by_size zero = ap (λ (b : Bool). cond (b && true) (Some (pos 0)) None) zero_text ∙ no_zero (same_name (decimal 0) bs && true)
     by_size (suc m) = by_text m (same_name (decimal (suc m)) bs)
@@ -189,8 +200,10 @@ number_of-above b bs no_minus =
   where
     n : ℕ
     n = digits_number (b ∷ bs)
+
     with_sign : ℤ → Option ℤ
     with_sign z = cond (same_name (signed_decimal z) (b ∷ bs) && in_range Long z) (Some z) None
+
     by_size : (t : Bool) → nat_le n 9223372036854775807 ≡ t → cond (nat_le n 9223372036854775807) (Some (pos n)) None ≡ positive (cond (nat_le n 18446744073709551615) (Some n) None)
     by_size true e =
         let low = leb-true n 9223372036854775807 e in
@@ -200,6 +213,7 @@ number_of-above b bs no_minus =
         above : (t : Bool) → positive (cond t (Some n) None) ≡ None
         above true = ap (λ (t : Bool). cond t (Some (pos n)) None) e
         above false = refl
+
     by_text : (t : Bool) → cond (t && nat_le n 9223372036854775807) (Some (pos n)) None ≡ positive (cond (t && nat_le n 18446744073709551615) (Some n) None)
     by_text true = by_size (nat_le n 9223372036854775807) refl
     by_text false = refl

@@ -1,5 +1,5 @@
 -- What a line means: a table of commands, the first entry with the line's second word deciding.
-use Rattle.std.specs.Prelude.{ℕ, Bool, true, false, List, [], ◌∷◌, Option, None, Some, Result, Ok, Err, codes, nat_eq, if◌then◌else◌}
+use Rattle.std.specs.Prelude.{ℕ, Bool, true, false, List, [], ◌∷◌, ◌++◌, Option, None, Some, Result, Ok, Err, codes, nat_eq, if◌then◌else◌}
 use Rattle.class_layout.specs.Names.{same_name}
 use Rattle.heap_world.specs.declared.command.Command.{Command}
 use Rattle.heap_world.specs.declared.command.Verb.{Verb}
@@ -63,29 +63,48 @@ pub record Entry : Type 0 where
   pub word : List ℕ
   pub meaning : List (List ℕ) → Option Verb
 
--- the commands that take a fixed number of words
-abbrev pub fixed_entries : List Entry
-fixed_entries =
-    record { word = codes "new"; meaning = two root_of class_of verb.New }
-    ∷ record { word = codes "array"; meaning = three root_of kind_of count_of verb.Array }
-    ∷ record { word = codes "weak"; meaning = two root_of root_of verb.Weak }
-    ∷ record { word = codes "set"; meaning = three root_of field_of value_of verb.Set }
-    ∷ record { word = codes "put"; meaning = three root_of count_of value_of verb.Put }
-    ∷ record { word = codes "get"; meaning = two root_of field_of verb.Get }
-    ∷ record { word = codes "at"; meaning = two root_of count_of verb.At }
-    ∷ record { word = codes "copy"; meaning = two root_of root_of verb.Copy }
-    ∷ record { word = codes "load"; meaning = three root_of root_of field_of verb.Load }
-    ∷ record { word = codes "loadat"; meaning = three root_of root_of count_of verb.LoadAt }
-    ∷ record { word = codes "drop"; meaning = one root_of verb.Drop }
-    ∷ record { word = codes "show"; meaning = one root_of verb.Show }
-    ∷ record { word = codes "seal"; meaning = alone verb.Seal }
+-- the commands without words behind theirs
+abbrev pub alone_entries : List Entry
+alone_entries =
+    record { word = codes "seal"; meaning = alone verb.Seal }
     ∷ record { word = codes "gc"; meaning = alone verb.Gc }
-    ∷ record { word = codes "fork"; meaning = one root_of verb.Fork }
     ∷ record { word = codes "exit"; meaning = alone verb.Exit }
     ∷ record { word = codes "free"; meaning = alone verb.Free }
     ∷ record { word = codes "pages"; meaning = alone verb.Pages }
     ∷ record { word = codes "frames"; meaning = alone verb.Frames }
     ∷ []
+
+-- those with one
+abbrev pub one_entries : List Entry
+one_entries =
+    record { word = codes "drop"; meaning = one root_of verb.Drop }
+    ∷ record { word = codes "show"; meaning = one root_of verb.Show }
+    ∷ record { word = codes "fork"; meaning = one root_of verb.Fork }
+    ∷ []
+
+-- those with two
+abbrev pub two_entries : List Entry
+two_entries =
+    record { word = codes "new"; meaning = two root_of class_of verb.New }
+    ∷ record { word = codes "weak"; meaning = two root_of root_of verb.Weak }
+    ∷ record { word = codes "get"; meaning = two root_of field_of verb.Get }
+    ∷ record { word = codes "at"; meaning = two root_of count_of verb.At }
+    ∷ record { word = codes "copy"; meaning = two root_of root_of verb.Copy }
+    ∷ []
+
+-- those with three
+abbrev pub three_entries : List Entry
+three_entries =
+    record { word = codes "array"; meaning = three root_of kind_of count_of verb.Array }
+    ∷ record { word = codes "set"; meaning = three root_of field_of value_of verb.Set }
+    ∷ record { word = codes "put"; meaning = three root_of count_of value_of verb.Put }
+    ∷ record { word = codes "load"; meaning = three root_of root_of field_of verb.Load }
+    ∷ record { word = codes "loadat"; meaning = three root_of root_of count_of verb.LoadAt }
+    ∷ []
+
+-- those with a fixed number of words
+abbrev pub fixed_entries : List Entry
+fixed_entries = three_entries ++ (two_entries ++ (one_entries ++ alone_entries))
 
 -- all commands
 abbrev pub entries : List Entry

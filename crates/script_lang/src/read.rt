@@ -52,20 +52,28 @@ fn read_fields(alloc: Global, words: Words<'_>) -> Result<FieldList, LineError>
     while let Some(word) = words.next() {
         let field = field_decl(word).ok_or(LineError::Bad)?;
         if fields.push(field).is_err() {
-            return Err(if are_fields(words) { LineError::OutOfMemory } else { LineError::Bad });
+            return Err(if are_fields(words) {
+                LineError::OutOfMemory
+            } else {
+                LineError::Bad
+            });
         }
     }
     Ok(fields)
 }
 
 fn class_verb(alloc: Global, words: Words<'_>) -> Result<Verb, LineError>
-    requires { length words.entry ≤ 4096 }
+    requires { length words ≤ 4096 }
     ensures meaning { ReadsVerb result (class_line words.entry) }
     ensures few_fields { IfOk result HasFewFields }
 {
     let mut words = words;
-    let name = words.next().ok_or(LineError::Bad)?;
-    let parent = words.next().ok_or(LineError::Bad)?;
+    let Some(name) = words.next() else {
+        return Err(LineError::Bad);
+    };
+    let Some(parent) = words.next() else {
+        return Err(LineError::Bad);
+    };
     let name = class_name(name).ok_or(LineError::Bad)?;
     let parent = class_name(parent).ok_or(LineError::Bad)?;
     let fields = read_fields(alloc, words)?;
@@ -77,7 +85,7 @@ fn class_verb(alloc: Global, words: Words<'_>) -> Result<Verb, LineError>
 }
 
 fn read_verb(alloc: Global, word: &[u8], args: Words<'_>) -> Result<Verb, LineError>
-    requires { length args.entry ≤ 4096 }
+    requires { length args ≤ 4096 }
     ensures meaning { ReadsVerb result (verb_in entries word.now args.entry) }
     ensures few_fields { IfOk result HasFewFields }
 {
@@ -86,6 +94,13 @@ fn read_verb(alloc: Global, word: &[u8], args: Words<'_>) -> Result<Verb, LineEr
     } else {
         fixed_verb(word, args).ok_or(LineError::Bad)
     }
+}
+
+/// Whether a line whose first word this is has no reply.
+fn is_remark(word: &[u8]) -> bool
+    ensures { result ≡ begins_with_hash word.now }
+{
+    word.first() == Some(&b'#')
 }
 
 /// The command that a line of at most 4,096 bytes is, without its line feed. `Ok(None)` comes for a line without
@@ -97,14 +112,20 @@ pub fn read_line(alloc: Global, bytes: &[u8]) -> Result<Option<Command>, LineErr
     ensures few_fields { IfOk result (λ line. IfSome line (λ command. HasFewFields command.verb)) }
 {
     let mut words = Words::of(bytes);
-    let Some(process) = words.next() else {
+    let Some(first) = words.next() else {
         return Ok(None);
     };
-    if process.first() == Some(&b'#') {
+    if is_remark(first) {
         return Ok(None);
     }
-    let process = root_name(process).ok_or(LineError::Bad)?;
-    let verb = words.next().ok_or(LineError::Bad)?;
-    let verb = read_verb(alloc, verb, words)?;
-    Ok(Some(Command { process, verb }))
+    let Some(process) = root_name(first) else {
+        return Err(LineError::Bad);
+    };
+    let Some(command) = words.next() else {
+        return Err(LineError::Bad);
+    };
+    match read_verb(alloc, command, words) {
+        Ok(verb) => Ok(Some(Command { process, verb })),
+        Err(error) => Err(error),
+    }
 }

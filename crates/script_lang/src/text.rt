@@ -26,14 +26,7 @@ fn put_number<I: Integer>(buf: &mut [u8; 512], at: usize, piece: &[u8], number: 
 }
 
 /// Writes two pieces, each with a number behind it.
-fn put_two(
-    buf: &mut [u8; 512],
-    at: usize,
-    first: &[u8],
-    a: u32,
-    second: &[u8],
-    b: u32,
-) -> usize
+fn put_two(buf: &mut [u8; 512], at: usize, first: &[u8], a: u32, second: &[u8], b: u32) -> usize
     requires { at + length first.now + length second.now + 80 ≤ 512 }
     ensures written { take result buf.new ≡ take at buf.old ++ first.now ++ decimal a ++ second.now ++ decimal b }
     ensures end { result ≤ at + length first.now + length second.now + 80 }

@@ -11,13 +11,7 @@ fn without_return(line: &[u8]) -> &[u8]
 {
     match line.split_last() {
         None => line,
-        Some((last, front)) => {
-            if *last == b'\r' {
-                front
-            } else {
-                line
-            }
-        }
+        Some((last, front)) => { if *last == b'\r' { front } else { line } }
     }
 }
 
