@@ -1,3 +1,4 @@
+pub mod Examples
 pub mod Forms
 pub mod Grammar
 pub mod Numbers

@@ -1,6 +1,7 @@
 //! The script language: what a line means, and the text of a reply.
 #![tactic(auto)]
 
+mod examples;
 mod forms;
 mod numbers;
 mod parts;
