@@ -22,7 +22,7 @@ pub(crate) fn cut_blank(text: &[u8]) -> (&[u8], Option<&[u8]>)
     ensures shorter { IfSome result.1 (λ rest. length rest.now < length text.now) }
 {
     match memchr2(b' ', b'\t', text) {
-        Some(at) => (&text[..at], Some(&text[at + 1..])),
+        Some(end) => (&text[..end], Some(&text[end + 1..])),
         None => (text, None),
     }
 }
