@@ -1,12 +1,12 @@
 -- From what the words ask to what the line means.
-use Rattle.std.proofs.Common.{◌≡◌, ℕ, Bool, true, false, cond, List, [], ◌∷◌, Option, None, Some, Result, Ok, Err, refl, sym, ◌∙◌, ap, subst}
+use Rattle.std.proofs.Common.{◌≡◌, ℕ, Bool, false, cond, List, ◌∷◌, Option, None, Some, Result, Ok, Err, sym, ◌∙◌, ap, subst}
 use Rattle.heap_world.specs.declared.command.Command.{Command}
 use Rattle.heap_world.specs.declared.command.Verb.{Verb}
 use Rattle.script_lang.specs.declared.read.LineError.{LineError}
 use Rattle.script_lang.specs.declared.read.LineError.TheVariants.{Bad, OutOfMemory}
 use Rattle.script_lang.specs.Parts.{words}
 use Rattle.script_lang.specs.Forms.{root_of}
-use Rattle.script_lang.specs.Grammar.{verb_in, entries, command_with, command_of, begins_with_hash, as_meaning, words_meaning, line_meaning}
+use Rattle.script_lang.specs.Grammar.{verb_in, entries, command_with, begins_with_hash, as_meaning, words_meaning, line_meaning}
 use Rattle.script_lang.specs.Reading.{ReadsVerb, ReadsLine}
 
 error_of : (e : LineError) (process : List ℕ) (asked : Option Verb) → ReadsVerb (Err e) asked → ReadsLine (Err e) (as_meaning (command_with (Some process) asked))

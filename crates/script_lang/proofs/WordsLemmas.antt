@@ -1,8 +1,7 @@
 -- The words of a line, from its parts.
-use Rattle.std.proofs.Common.{◌≡◌, ℕ, zero, suc, ◌+◌, ◌-◌, ◌<◌, ◌≤◌, Bool, true, false, cond, nat_eq, List, [], ◌∷◌, ◌++◌, Option, None, Some, length, get_or, take, filter, refl, sym, ◌∙◌, ap, arith}
+use Rattle.std.proofs.Common.{◌≡◌, ℕ, suc, ◌<◌, ◌≤◌, Bool, true, false, cond, nat_eq, List, [], ◌∷◌, ◌++◌, length, filter, refl, ap, arith}
 use Rattle.std.proofs.lemmas.Bool.{ne_eqb}
-use Rattle.script_lang.specs.Parts.{with_byte, parts, is_blank, is_some_word, without_return, words_left, words}
-use Rattle.script_lang.proofs.PartsLemmas.{parts-some}
+use Rattle.script_lang.specs.Parts.{with_byte, parts, is_blank, is_some_word, without_return, words}
 
 -- a part that isn't empty is a word
 pub filter-word : (p : List ℕ) (ps : List (List ℕ)) → 0 < length p → filter is_some_word (p ∷ ps) ≡ p ∷ filter is_some_word ps

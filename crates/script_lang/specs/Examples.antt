@@ -1,7 +1,9 @@
 -- Lines and what they mean, and replies with their texts.
-use Rattle.std.specs.Prelude.{ℕ, ℤ, pos, negsuc, Bool, true, false, List, [], ◌∷◌, ◌++◌, Option, None, Some, Result, Ok, Err, codes, replicate}
-use Rattle.class_layout.specs.declared.kind.Kind.TheVariants.{Ref, Boolean, Byte, Char, Short, Int, Long}
+use Rattle.std.specs.Prelude.{ℕ, pos, negsuc, Bool, true, false, not, ◌&&◌, List, [], ◌∷◌, ◌++◌, Option, Some, Result, Ok, codes, replicate}
+use Rattle.std.specs.List.{list_any}
+use Rattle.class_layout.specs.declared.kind.Kind.TheVariants.{Ref, Boolean, Int, Long}
 use Rattle.class_layout.specs.declared.kind.Value.TheVariants as value
+use Rattle.class_layout.specs.Names.{same_name}
 use Rattle.heap_world.specs.declared.command.Command.{Command}
 use Rattle.heap_world.specs.declared.command.Verb.{Verb}
 use Rattle.heap_world.specs.declared.command.Verb.TheVariants as verb
@@ -43,6 +45,7 @@ good_lines =
     ∷ (codes "p frames", verb.Frames)
     ∷ []
 
+-- what a line means that asks this of the process p
 abbrev pub asked_of_p : Verb → Result (Option Command) LineError
 asked_of_p v = Ok (Some (record { process = codes "p"; verb = v }))
 
@@ -114,3 +117,8 @@ replies =
     ∷ ((1029, reply.Refused (refusal.ZygoteFull 268435456 8)), codes "1029: E20 zygote full: fill 268435456 total 8\n")
     ∷ ((18446744073709551615, reply.Refused refusal.NumberLimit), codes "18446744073709551615: E22 number limit\n")
     ∷ []
+
+-- no word stands twice
+abbrev pub are_different : List (List ℕ) → Bool
+are_different [] = true
+are_different (w ∷ ws) = not (list_any (same_name w) ws) && are_different ws

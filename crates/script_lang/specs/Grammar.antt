@@ -10,16 +10,18 @@ use Rattle.script_lang.specs.Parts.{words}
 use Rattle.script_lang.specs.Numbers.{count_of}
 use Rattle.script_lang.specs.Forms.{root_of, class_of, field_of, kind_of, value_of, decls_of}
 
--- what is asked, if each word that it takes has its form
+-- what is asked with one word, if the word has its form
 abbrev pub asked_one : {A : Type 0} → (A → Verb) → Option A → Option Verb
 asked_one verb (Some a) = Some (verb a)
 asked_one verb None = None
 
+-- the same for two words
 abbrev pub asked_two : {A B : Type 0} → (A → B → Verb) → Option A → Option B → Option Verb
 asked_two verb (Some a) (Some b) = Some (verb a b)
 asked_two verb (Some a) None = None
 asked_two verb None b = None
 
+-- and for three
 abbrev pub asked_three : {A B C : Type 0} → (A → B → C → Verb) → Option A → Option B → Option C → Option Verb
 asked_three verb (Some a) (Some b) (Some c) = Some (verb a b c)
 asked_three verb (Some a) (Some b) None = None
@@ -127,6 +129,7 @@ command_of (process ∷ word ∷ args) = command_with (root_of process) (verb_in
 command_of [] = None
 command_of (process ∷ []) = None
 
+-- the first byte is `#`
 abbrev pub begins_with_hash : List ℕ → Bool
 begins_with_hash [] = false
 begins_with_hash (b ∷ bs) = nat_eq b 35

@@ -42,6 +42,7 @@ without_return [] = []
 without_return (b ∷ []) = if nat_eq b 13 then [] else b ∷ []
 without_return (b ∷ c ∷ bs) = b ∷ without_return (c ∷ bs)
 
+-- a part that isn't empty
 abbrev pub is_some_word : List ℕ → Bool
 is_some_word [] = false
 is_some_word (b ∷ bs) = true

@@ -8,6 +8,7 @@ use Rattle.heap_world.specs.declared.command.Verb.TheVariants as verb
 use Rattle.script_lang.specs.declared.read.LineError.{LineError}
 use Rattle.script_lang.specs.declared.read.LineError.TheVariants.{Bad, OutOfMemory}
 
+-- a class is asked for
 abbrev pub IsClass : Verb → Type 0
 IsClass (verb.Class name parent fields) = Unit {0}
 IsClass v = ⊥

@@ -36,6 +36,7 @@ abbrev pub collected_mark : Bool → List ℕ
 collected_mark true = codes " gc"
 collected_mark false = []
 
+-- the text of each reply
 abbrev pub reply_words : Reply → List ℕ
 reply_words (reply.Class id) = codes "class " ++ decimal id
 reply_words (reply.Made number collected) = codes "#" ++ decimal number ++ collected_mark collected

@@ -1,9 +1,14 @@
 //! The definitions, computed: what they say of some lines and replies. Each function's contract is an example.
-ghost use Rattle.std.specs.Prelude.{◌≡◌, None, Ok, Err, map};
+ghost use Rattle.std.specs.Prelude.{◌≡◌, None, Ok, Err, map, true};
 ghost use Rattle.script_lang.specs.Examples as example;
-ghost use Rattle.script_lang.specs.Grammar.{line_meaning};
+ghost use Rattle.script_lang.specs.Grammar.{entries, line_meaning};
 ghost use Rattle.script_lang.specs.Texts.{reply_line};
 ghost use Rattle.script_lang.specs.declared.read.LineError.TheVariants.{Bad};
+
+// so the first entry with a word is the only one
+fn no_command_twice()
+    ensures { example.are_different (map (λ e. e.word) entries) ≡ true }
+{}
 
 fn good_lines()
     ensures { map (λ e. line_meaning e.0) example.good_lines ≡ map (λ e. example.asked_of_p e.1) example.good_lines }

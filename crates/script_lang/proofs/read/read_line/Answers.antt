@@ -1,4 +1,4 @@
-use Rattle.std.proofs.Common.{◌≡◌, ℕ, Bool, false, List, ◌∷◌, Option, Some, ◌∙◌, sym, ap}
+use Rattle.std.proofs.Common.{◌≡◌, ℕ, false, List, ◌∷◌, Some, ◌∙◌, sym, ap}
 use Rattle.script_lang.specs.Parts.{words}
 use Rattle.script_lang.specs.Forms.{root_of}
 use Rattle.script_lang.specs.Grammar.{begins_with_hash}

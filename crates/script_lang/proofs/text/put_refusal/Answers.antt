@@ -1,4 +1,4 @@
-use Rattle.std.proofs.Common.{◌≡◌, ◌++◌, List, ℕ, ◌∙◌, ap, sym, take, codes, decimal}
+use Rattle.std.proofs.Common.{◌∙◌, take, codes, decimal}
 use Rattle.script_lang.proofs.TextLemmas.{regroup}
 use Rattle.script_lang.proofs.text.put_refusal.Goals as goal
 

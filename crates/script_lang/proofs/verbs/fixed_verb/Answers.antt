@@ -1,5 +1,5 @@
 use Rattle.std.proofs.Common.{◌≡◌, ℕ, List, [], ◌∷◌, ◌∙◌, ap}
-use Rattle.script_lang.proofs.VerbsLemmas.{fixed_alone, fixed_one, fixed_two, fixed_three, fixed_more}
+use Rattle.script_lang.proofs.VerbsLemmas.{fixed_one, fixed_two, fixed_three}
 use Rattle.script_lang.proofs.verbs.fixed_verb.Goals as goal
 
 pub returns-in_default-next-clause-asked : goal.returns-in_default-next-clause-asked

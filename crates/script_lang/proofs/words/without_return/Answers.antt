@@ -1,4 +1,4 @@
-use Rattle.std.proofs.Common.{◌∙◌, sym, ap}
+use Rattle.std.proofs.Common.{sym}
 use Rattle.script_lang.proofs.WordsLemmas.{without_return-last, without_return-other}
 use Rattle.script_lang.proofs.words.without_return.Goals as goal
 
