@@ -18,17 +18,27 @@ impl Model for FieldList {
 }
 
 impl FieldList {
-    ghost use Rattle.std.specs.Prelude.{◌≡◌, [], ◌∷◌, IfOk};
+    ghost use Rattle.std.specs.Prelude.{◌≡◌, [], ◌∷◌, ◌++◌, OnOk, OnErr};
 
-    /// A list of one field.
-    pub fn of(alloc: Global, field: FieldDecl) -> Result<FieldList, AllocError>
-        ensures { IfOk result (λ list. list ≡ field ∷ []) }
+    /// A list without fields. It takes no memory.
+    pub fn new(alloc: Global) -> FieldList
+        ensures { result ≡ [] }
     {
-        let mut fields = Vec::new(alloc);
-        fields.push(field)?;
-        Ok(FieldList { fields })
+        FieldList {
+            fields: Vec::new(alloc),
+        }
     }
 
+    /// Puts a field behind the others. After an error the list is as before.
+    pub fn push(&mut self, field: FieldDecl) -> Result<(), AllocError>
+        ensures pushed { OnOk result (self.new ≡ self.old ++ field ∷ []) }
+        ensures unchanged { OnErr result (self.new ≡ self.old) }
+    {
+        self.fields.push(field)?;
+        Ok(())
+    }
+
+    /// The fields, in order.
     pub fn as_slice(&self) -> &[FieldDecl]
         ensures { result.now ≡ self.now }
     {

@@ -1,113 +1,153 @@
 -- What a line means: a table of commands, the first entry with the line's second word deciding.
-use Rattle.std.specs.Prelude.{◌≡◌, ◌≤◌, ℕ, not, ◌&&◌, List, [], ◌∷◌, Option, None, Some, Result, Ok, Err, codes, length, IsSomeAnd, IsOkAnd, if◌then◌else◌}
-use Rattle.std.specs.Option.{option_map}
-use Rattle.class_layout.specs.declared.kind.FieldDecl.{FieldDecl}
-use Rattle.class_layout.specs.Names.{same_name, object_name, weak_reference_name}
-use Rattle.script_lang.specs.declared.command.Command.{Command}
-use Rattle.script_lang.specs.declared.command.Verb.{Verb}
-use Rattle.script_lang.specs.declared.command.Verb.TheVariants.{Class, New, Get}
+use Rattle.std.specs.Prelude.{ℕ, Bool, true, false, List, [], ◌∷◌, ◌++◌, Option, None, Some, Result, Ok, Err, codes, nat_eq, if◌then◌else◌}
+use Rattle.class_layout.specs.Names.{same_name}
+use Rattle.heap_world.specs.declared.command.Command.{Command}
+use Rattle.heap_world.specs.declared.command.Verb.{Verb}
+use Rattle.heap_world.specs.declared.command.Verb.TheVariants as verb
 use Rattle.script_lang.specs.declared.read.LineError.{LineError}
-use Rattle.script_lang.specs.declared.read.LineError.TheVariants.{Bad, OutOfMemory}
+use Rattle.script_lang.specs.declared.read.LineError.TheVariants.{Bad}
 use Rattle.script_lang.specs.Parts.{words}
-use Rattle.script_lang.specs.Forms.{is_root_name, is_class_name, is_field_name, passing, field_of}
+use Rattle.script_lang.specs.Numbers.{count_of}
+use Rattle.script_lang.specs.Forms.{root_of, class_of, field_of, kind_of, value_of, decls_of}
 
--- `class NAME java.lang.Object FIELD:int`
-abbrev pub class_of : Option (List ℕ) → Option (List ℕ) → Option FieldDecl → Option Verb
-class_of (Some name) (Some parent) (Some field) = Some (Class name parent (field ∷ []))
-class_of (Some name) (Some parent) None = None
-class_of (Some name) None field = None
-class_of None parent field = None
+-- what is asked with one word, if the word has its form
+abbrev pub asked_one : {A : Type 0} → (A → Verb) → Option A → Option Verb
+asked_one verb (Some a) = Some (verb a)
+asked_one verb None = None
 
-abbrev pub class_args : List (List ℕ) → Option Verb
-class_args (name ∷ parent ∷ field ∷ []) =
-    class_of (passing (is_class_name name) name) (passing (same_name parent object_name) parent) (field_of field)
-class_args [] = None
-class_args (a ∷ []) = None
-class_args (a ∷ b ∷ []) = None
-class_args (a ∷ b ∷ c ∷ d ∷ rest) = None
+-- the same for two words
+abbrev pub asked_two : {A B : Type 0} → (A → B → Verb) → Option A → Option B → Option Verb
+asked_two verb (Some a) (Some b) = Some (verb a b)
+asked_two verb (Some a) None = None
+asked_two verb None b = None
 
--- `new R CLASS`, but for the class of weak references, whose objects are made in another way
-abbrev pub new_of : Option (List ℕ) → Option (List ℕ) → Option Verb
-new_of (Some root) (Some class) = Some (New root class)
-new_of (Some root) None = None
-new_of None class = None
+-- and for three
+abbrev pub asked_three : {A B C : Type 0} → (A → B → C → Verb) → Option A → Option B → Option C → Option Verb
+asked_three verb (Some a) (Some b) (Some c) = Some (verb a b c)
+asked_three verb (Some a) (Some b) None = None
+asked_three verb (Some a) None c = None
+asked_three verb None b c = None
 
-abbrev pub new_args : List (List ℕ) → Option Verb
-new_args (root ∷ class ∷ []) =
-    new_of (passing (is_root_name root) root) (passing (is_class_name class && not (same_name class weak_reference_name)) class)
-new_args [] = None
-new_args (a ∷ []) = None
-new_args (a ∷ b ∷ c ∷ rest) = None
+-- no word behind the command's word
+abbrev pub alone : Verb → List (List ℕ) → Option Verb
+alone verb [] = Some verb
+alone verb (a ∷ rest) = None
 
--- `get R FIELD`
-abbrev pub get_of : Option (List ℕ) → Option (List ℕ) → Option Verb
-get_of (Some root) (Some field) = Some (Get root field)
-get_of (Some root) None = None
-get_of None field = None
+-- one word, of this form
+abbrev pub one : {A : Type 0} → (List ℕ → Option A) → (A → Verb) → List (List ℕ) → Option Verb
+one f verb (a ∷ []) = asked_one verb (f a)
+one f verb [] = None
+one f verb (a ∷ b ∷ rest) = None
 
-abbrev pub get_args : List (List ℕ) → Option Verb
-get_args (root ∷ field ∷ []) = get_of (passing (is_root_name root) root) (passing (is_field_name field) field)
-get_args [] = None
-get_args (a ∷ []) = None
-get_args (a ∷ b ∷ c ∷ rest) = None
+-- two words, each of its form
+abbrev pub two : {A B : Type 0} → (List ℕ → Option A) → (List ℕ → Option B) → (A → B → Verb) → List (List ℕ) → Option Verb
+two f g verb (a ∷ b ∷ []) = asked_two verb (f a) (g b)
+two f g verb [] = None
+two f g verb (a ∷ []) = None
+two f g verb (a ∷ b ∷ c ∷ rest) = None
+
+-- three words, each of its form
+abbrev pub three : {A B C : Type 0} → (List ℕ → Option A) → (List ℕ → Option B) → (List ℕ → Option C) → (A → B → C → Verb) → List (List ℕ) → Option Verb
+three f g h verb (a ∷ b ∷ c ∷ []) = asked_three verb (f a) (g b) (h c)
+three f g h verb [] = None
+three f g h verb (a ∷ []) = None
+three f g h verb (a ∷ b ∷ []) = None
+three f g h verb (a ∷ b ∷ c ∷ d ∷ rest) = None
+
+-- a class's name, its superclass's, and any number of fields
+abbrev pub class_line : List (List ℕ) → Option Verb
+class_line (name ∷ parent ∷ fields) = asked_three verb.Class (class_of name) (class_of parent) (decls_of fields)
+class_line [] = None
+class_line (name ∷ []) = None
 
 -- a command's word, and what the words behind it mean
-pub record Form : Type 0 where
-  pub verb : List ℕ
+pub record Entry : Type 0 where
+  pub word : List ℕ
   pub meaning : List (List ℕ) → Option Verb
 
--- the commands; a later one is one more entry
-abbrev pub forms : List Form
-forms =
-    record { verb = codes "class"; meaning = class_args }
-    ∷ record { verb = codes "new"; meaning = new_args }
-    ∷ record { verb = codes "get"; meaning = get_args }
+-- the commands without words behind theirs
+abbrev pub alone_entries : List Entry
+alone_entries =
+    record { word = codes "seal"; meaning = alone verb.Seal }
+    ∷ record { word = codes "gc"; meaning = alone verb.Gc }
+    ∷ record { word = codes "exit"; meaning = alone verb.Exit }
+    ∷ record { word = codes "free"; meaning = alone verb.Free }
+    ∷ record { word = codes "pages"; meaning = alone verb.Pages }
+    ∷ record { word = codes "frames"; meaning = alone verb.Frames }
     ∷ []
 
+-- those with one
+abbrev pub one_entries : List Entry
+one_entries =
+    record { word = codes "drop"; meaning = one root_of verb.Drop }
+    ∷ record { word = codes "show"; meaning = one root_of verb.Show }
+    ∷ record { word = codes "fork"; meaning = one root_of verb.Fork }
+    ∷ []
+
+-- those with two
+abbrev pub two_entries : List Entry
+two_entries =
+    record { word = codes "new"; meaning = two root_of class_of verb.New }
+    ∷ record { word = codes "weak"; meaning = two root_of root_of verb.Weak }
+    ∷ record { word = codes "get"; meaning = two root_of field_of verb.Get }
+    ∷ record { word = codes "at"; meaning = two root_of count_of verb.At }
+    ∷ record { word = codes "copy"; meaning = two root_of root_of verb.Copy }
+    ∷ []
+
+-- those with three
+abbrev pub three_entries : List Entry
+three_entries =
+    record { word = codes "array"; meaning = three root_of kind_of count_of verb.Array }
+    ∷ record { word = codes "set"; meaning = three root_of field_of value_of verb.Set }
+    ∷ record { word = codes "put"; meaning = three root_of count_of value_of verb.Put }
+    ∷ record { word = codes "load"; meaning = three root_of root_of field_of verb.Load }
+    ∷ record { word = codes "loadat"; meaning = three root_of root_of count_of verb.LoadAt }
+    ∷ []
+
+-- those with a fixed number of words
+abbrev pub fixed_entries : List Entry
+fixed_entries = three_entries ++ (two_entries ++ (one_entries ++ alone_entries))
+
+-- all commands
+abbrev pub entries : List Entry
+entries = record { word = codes "class"; meaning = class_line } ∷ fixed_entries
+
 -- the first entry with the word decides
-abbrev pub verb_in : List Form → List ℕ → List (List ℕ) → Option Verb
+abbrev pub verb_in : List Entry → List ℕ → List (List ℕ) → Option Verb
 verb_in [] word args = None
-verb_in (f ∷ fs) word args = if same_name word f.verb then f.meaning args else verb_in fs word args
+verb_in (e ∷ es) word args = if same_name word e.word then e.meaning args else verb_in es word args
 
-abbrev pub verb_of : List (List ℕ) → Option Verb
-verb_of [] = None
-verb_of (word ∷ args) = verb_in forms word args
+-- a command asks something of a process
+abbrev pub command_with : Option (List ℕ) → Option Verb → Option Command
+command_with (Some process) (Some verb) = Some (record { process = process; verb = verb })
+command_with (Some process) None = None
+command_with None verb = None
 
--- the one process so far is `zygote`
+-- a line's words are the process's name, the command's word, and the words that the command takes
 abbrev pub command_of : List (List ℕ) → Option Command
+command_of (process ∷ word ∷ args) = command_with (root_of process) (verb_in entries word args)
 command_of [] = None
-command_of (process ∷ rest) =
-    if same_name process (codes "zygote") then option_map (λ verb. record { process = process; verb = verb }) (verb_of rest) else None
+command_of (process ∷ []) = None
+
+-- the first byte is `#`
+abbrev pub begins_with_hash : List ℕ → Bool
+begins_with_hash [] = false
+begins_with_hash (b ∷ bs) = nat_eq b 35
+
+-- a line without words, or whose first word begins with `#`, has no reply
+abbrev pub is_silent : List (List ℕ) → Bool
+is_silent [] = true
+is_silent (word ∷ rest) = begins_with_hash word
 
 -- no command is a bad line
 abbrev pub as_meaning : Option Command → Result (Option Command) LineError
 as_meaning None = Err Bad
 as_meaning (Some command) = Ok (Some command)
 
--- what a line means: a command, or nothing that is replied to (no line so far), or it is bad
+-- what words mean: a command, or nothing that is replied to, or they are bad
+abbrev pub words_meaning : List (List ℕ) → Result (Option Command) LineError
+words_meaning ws = if is_silent ws then Ok None else as_meaning (command_of ws)
+
+-- what a line means
 abbrev pub line_meaning : List ℕ → Result (Option Command) LineError
-line_meaning line = as_meaning (command_of (words line))
-
-abbrev pub IsClass : Verb → Type 0
-IsClass (Class name parent fields) = Unit {0}
-IsClass (New root class) = ⊥
-IsClass (Get root field) = ⊥
-
--- a class line declares at most 4,096 fields
-abbrev pub HasFewFields : Verb → Type 0
-HasFewFields (Class name parent fields) = length fields ≤ 4096
-HasFewFields (New root class) = Unit {0}
-HasFewFields (Get root field) = Unit {0}
-
--- what reading answers of words that mean this, or nothing: the meaning, or that there is none. Memory may be
--- wanting for the fields of a class alone
-abbrev pub ReadsVerb : Result Verb LineError → Option Verb → Type 0
-ReadsVerb (Ok verb) meaning = meaning ≡ Some verb
-ReadsVerb (Err Bad) meaning = meaning ≡ None
-ReadsVerb (Err OutOfMemory) meaning = IsSomeAnd meaning IsClass
-
--- the same of a line
-abbrev pub ReadsLine : Result (Option Command) LineError → Result (Option Command) LineError → Type 0
-ReadsLine (Ok line) meaning = meaning ≡ Ok line
-ReadsLine (Err Bad) meaning = meaning ≡ Err Bad
-ReadsLine (Err OutOfMemory) meaning = IsOkAnd meaning (λ line. IsSomeAnd line (λ command. IsClass command.verb))
+line_meaning line = words_meaning (words line)

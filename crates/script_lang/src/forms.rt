@@ -1,10 +1,10 @@
-ghost use Rattle.std.specs.Prelude.{◌≡◌, ◌&&◌, not};
+ghost use Rattle.std.specs.Prelude.{◌≡◌};
 ghost use Rattle.std.specs.List.{list_all};
-ghost use Rattle.class_layout.specs.Names.{weak_reference_name, object_name, same_name};
-ghost use Rattle.script_lang.specs.Forms.{is_letter, is_root_byte, is_class_byte, is_field_start, is_field_byte, is_spelled, is_root_name, is_class_name, is_field_name, passing, field_of};
+ghost use Rattle.script_lang.specs.Forms.{is_letter, is_root_byte, is_class_byte, is_field_start, is_field_byte, is_spelled, root_of, class_of, field_of, kind_of, value_of, decl_of};
 
+use crate::numbers::number;
 use crate::parts::cut;
-use class_layout::{FieldDecl, Kind, Name};
+use class_layout::{FieldDecl, Kind, Name, Value};
 
 fn in_root(b: u8) -> bool
     ensures { result ≡ is_root_byte b }
@@ -71,9 +71,9 @@ fn spells_field(word: &[u8]) -> bool
     }
 }
 
-/// The root's name that the word is.
+/// The name of a root or of a process that the word is.
 pub(crate) fn root_name(word: &[u8]) -> Option<Name>
-    ensures { result ≡ passing (is_root_name word.now) word.now }
+    ensures { result ≡ root_of word.now }
 {
     if spells_root(word) && word != b"null".as_slice() {
         Name::of(word)
@@ -84,7 +84,7 @@ pub(crate) fn root_name(word: &[u8]) -> Option<Name>
 
 /// The class's name that the word is.
 pub(crate) fn class_name(word: &[u8]) -> Option<Name>
-    ensures { result ≡ passing (is_class_name word.now) word.now }
+    ensures { result ≡ class_of word.now }
 {
     if spells_class(word) {
         Name::of(word)
@@ -95,7 +95,7 @@ pub(crate) fn class_name(word: &[u8]) -> Option<Name>
 
 /// The field's name that the word is.
 pub(crate) fn field_name(word: &[u8]) -> Option<Name>
-    ensures { result ≡ passing (is_field_name word.now) word.now }
+    ensures { result ≡ field_of word.now }
 {
     if spells_field(word) {
         Name::of(word)
@@ -104,40 +104,42 @@ pub(crate) fn field_name(word: &[u8]) -> Option<Name>
     }
 }
 
+/// The kind that the word is.
+pub(crate) fn kind(word: &[u8]) -> Option<Kind>
+    ensures { result ≡ kind_of word.now }
+{
+    match word {
+        b"ref" => Some(Kind::Ref),
+        b"boolean" => Some(Kind::Boolean),
+        b"byte" => Some(Kind::Byte),
+        b"char" => Some(Kind::Char),
+        b"short" => Some(Kind::Short),
+        b"int" => Some(Kind::Int),
+        b"long" => Some(Kind::Long),
+        _ => None,
+    }
+}
+
+/// The value that the word is.
+pub(crate) fn value(word: &[u8]) -> Option<Value>
+    ensures { result ≡ value_of word.now }
+{
+    if word == b"null".as_slice() {
+        return Some(Value::Null);
+    }
+    match number(word) {
+        Some(number) => Some(Value::Number(number)),
+        None => Some(Value::Root(root_name(word)?)),
+    }
+}
+
 /// The field and its kind that the word is, with a colon between them.
 pub(crate) fn field_decl(word: &[u8]) -> Option<FieldDecl>
-    ensures { result ≡ field_of word.now }
+    ensures { result ≡ decl_of word.now }
 {
-    let (name, kind) = cut(word, b':');
-    let (kind, more) = cut(kind?, b':');
-    match more {
-        Some(_) => None,
-        None if kind == b"int".as_slice() => Some(FieldDecl {
-            name: field_name(name)?,
-            kind: Kind::Int,
-        }),
-        None => None,
-    }
-}
-
-/// The name of the class without a superclass, where the word is that.
-pub(crate) fn object_class_name(word: &[u8]) -> Option<Name>
-    ensures { result ≡ passing (same_name word.now object_name) word.now }
-{
-    if word == b"java.lang.Object".as_slice() {
-        Name::of(word)
-    } else {
-        None
-    }
-}
-
-/// The class's name that the word is, but for the class of weak references.
-pub(crate) fn plain_class_name(word: &[u8]) -> Option<Name>
-    ensures { result ≡ passing (is_class_name word.now && not (same_name word.now weak_reference_name)) word.now }
-{
-    if word == b"java.lang.ref.WeakReference".as_slice() {
-        None
-    } else {
-        class_name(word)
-    }
+    let (name, kind_word) = cut(word, b':');
+    Some(FieldDecl {
+        name: field_name(name)?,
+        kind: kind(kind_word?)?,
+    })
 }

@@ -1,15 +1,16 @@
 //! The script language: what a line means, and the text of a reply.
 #![tactic(auto)]
 
-mod command;
+mod examples;
 mod forms;
+mod numbers;
 mod parts;
 mod read;
-mod reply;
 mod text;
+mod verbs;
+mod words;
 
-pub use command::{Command, FieldList, Verb};
+pub use heap_world::{Command, FieldList, Refusal, Reply, Verb};
 pub use parts::split_line;
 pub use read::{LineError, read_line};
-pub use reply::{Refusal, Reply};
 pub use text::reply_text;

@@ -1,12 +1,13 @@
-ghost use Rattle.std.specs.Prelude.{◌≡◌, ◌≢◌, ◌∷◌, [], length, MatchOption, IfOk, IfSome};
-ghost use Rattle.script_lang.specs.Grammar.{class_args, new_args, get_args, verb_in, forms, line_meaning, ReadsVerb, ReadsLine, HasFewFields};
+ghost use Rattle.std.specs.Prelude.{◌≡◌, ◌≤◌, length, IfOk, IfSome, is_some};
+ghost use Rattle.heap_world.specs.Formed.{HasFewFields};
+ghost use Rattle.script_lang.specs.Forms.{decls_of};
+ghost use Rattle.script_lang.specs.Grammar.{class_line, verb_in, entries, begins_with_hash, line_meaning};
+ghost use Rattle.script_lang.specs.Reading.{ReadsFields, ReadsVerb, ReadsLine};
 
-use crate::forms::{
-    class_name, field_decl, field_name, object_class_name, plain_class_name, root_name,
-};
-use crate::parts::Words;
+use crate::forms::{class_name, field_decl, root_name};
+use crate::verbs::fixed_verb;
+use crate::words::Words;
 use crate::{Command, FieldList, Verb};
-use class_layout::Name;
 use std::alloc::{AllocError, Global};
 
 /// Why a line can't be read.
@@ -14,6 +15,7 @@ use std::alloc::{AllocError, Global};
 pub enum LineError {
     /// The line is no command.
     Bad,
+    /// There is no memory for the fields of a class.
     OutOfMemory,
 }
 
@@ -28,41 +30,53 @@ impl From<AllocError> for LineError {
     }
 }
 
-/// The two words that are left, if there are two.
-fn two_words<'a>(words: Words<'a>) -> Option<(&'a [u8], &'a [u8])>
-    ensures { MatchOption result (length words.entry ≢ 2) (λ r. words.entry ≡ r.0.now ∷ r.1.now ∷ []) }
+/// Whether each word that is left is a field.
+fn are_fields(words: Words<'_>) -> bool
+    ensures { result ≡ is_some (decls_of words.entry) }
 {
     let mut words = words;
-    let first = words.next()?;
-    let second = words.next()?;
-    match words.next() {
-        None => Some((first, second)),
-        Some(_) => None,
+    while let Some(word) = words.next() {
+        if field_decl(word).is_none() {
+            return false;
+        }
     }
+    true
 }
 
-/// The three words that are left, if there are three.
-fn three_words<'a>(words: Words<'a>) -> Option<(&'a [u8], &'a [u8], &'a [u8])>
-    ensures { MatchOption result (length words.entry ≢ 3) (λ r. words.entry ≡ r.0.now ∷ r.1.now ∷ r.2.now ∷ []) }
+/// The fields that the words declare. Where memory is wanting, a word that is no field still makes the line bad.
+fn read_fields(alloc: Global, words: Words<'_>) -> Result<FieldList, LineError>
+    ensures { ReadsFields result (decls_of words.entry) }
 {
     let mut words = words;
-    let first = words.next()?;
-    let second = words.next()?;
-    let third = words.next()?;
-    match words.next() {
-        None => Some((first, second, third)),
-        Some(_) => None,
+    let mut fields = FieldList::new(alloc);
+    while let Some(word) = words.next() {
+        let field = field_decl(word).ok_or(LineError::Bad)?;
+        if fields.push(field).is_err() {
+            return Err(if are_fields(words) {
+                LineError::OutOfMemory
+            } else {
+                LineError::Bad
+            });
+        }
     }
+    Ok(fields)
 }
 
 fn class_verb(alloc: Global, words: Words<'_>) -> Result<Verb, LineError>
-    ensures { ReadsVerb result (class_args words.entry) }
+    requires { length words ≤ 4096 }
+    ensures meaning { ReadsVerb result (class_line words.entry) }
+    ensures few_fields { IfOk result HasFewFields }
 {
-    let (name, parent, field) = three_words(words).ok_or(LineError::Bad)?;
+    let mut words = words;
+    let Some(name) = words.next() else {
+        return Err(LineError::Bad);
+    };
+    let Some(parent) = words.next() else {
+        return Err(LineError::Bad);
+    };
     let name = class_name(name).ok_or(LineError::Bad)?;
-    let parent = object_class_name(parent).ok_or(LineError::Bad)?;
-    let field = field_decl(field).ok_or(LineError::Bad)?;
-    let fields = FieldList::of(alloc, field)?;
+    let parent = class_name(parent).ok_or(LineError::Bad)?;
+    let fields = read_fields(alloc, words)?;
     Ok(Verb::Class {
         name,
         parent,
@@ -70,53 +84,48 @@ fn class_verb(alloc: Global, words: Words<'_>) -> Result<Verb, LineError>
     })
 }
 
-fn new_verb(words: Words<'_>) -> Option<Verb>
-    ensures { result ≡ new_args words.entry }
-{
-    let (root, class) = two_words(words)?;
-    Some(Verb::New {
-        root: root_name(root)?,
-        class: plain_class_name(class)?,
-    })
-}
-
-fn get_verb(words: Words<'_>) -> Option<Verb>
-    ensures { result ≡ get_args words.entry }
-{
-    let (root, field) = two_words(words)?;
-    Some(Verb::Get {
-        root: root_name(root)?,
-        field: field_name(field)?,
-    })
-}
-
 fn read_verb(alloc: Global, word: &[u8], args: Words<'_>) -> Result<Verb, LineError>
-    ensures { ReadsVerb result (verb_in forms word.now args.entry) }
+    requires { length args ≤ 4096 }
+    ensures meaning { ReadsVerb result (verb_in entries word.now args.entry) }
+    ensures few_fields { IfOk result HasFewFields }
 {
     if word == b"class".as_slice() {
         class_verb(alloc, args)
-    } else if word == b"new".as_slice() {
-        new_verb(args).ok_or(LineError::Bad)
-    } else if word == b"get".as_slice() {
-        get_verb(args).ok_or(LineError::Bad)
     } else {
-        Err(LineError::Bad)
+        fixed_verb(word, args).ok_or(LineError::Bad)
     }
 }
 
-/// The command that a line is. `Bad` comes exactly where the line is none, and `OutOfMemory` for a class line
-/// alone. `Ok(None)` is for a line without a reply; no line is one so far.
+/// Whether a line whose first word this is has no reply.
+fn is_remark(word: &[u8]) -> bool
+    ensures { result ≡ begins_with_hash word.now }
+{
+    word.first() == Some(&b'#')
+}
+
+/// The command that a line of at most 4,096 bytes is, without its line feed. `Ok(None)` comes for a line without
+/// words, or whose first word begins with `#`. `Bad` comes exactly where the line is neither that nor a command, and
+/// `OutOfMemory` for a class line alone.
 pub fn read_line(alloc: Global, bytes: &[u8]) -> Result<Option<Command>, LineError>
+    requires { length bytes.now ≤ 4096 }
     ensures meaning { ReadsLine result (line_meaning bytes.now) }
     ensures few_fields { IfOk result (λ line. IfSome line (λ command. HasFewFields command.verb)) }
 {
     let mut words = Words::of(bytes);
-    let process = words.next().ok_or(LineError::Bad)?;
-    if process != b"zygote".as_slice() {
-        return Err(LineError::Bad);
+    let Some(first) = words.next() else {
+        return Ok(None);
+    };
+    if is_remark(first) {
+        return Ok(None);
     }
-    let process = Name::of(process).ok_or(LineError::Bad)?;
-    let verb = words.next().ok_or(LineError::Bad)?;
-    let verb = read_verb(alloc, verb, words)?;
-    Ok(Some(Command { process, verb }))
+    let Some(process) = root_name(first) else {
+        return Err(LineError::Bad);
+    };
+    let Some(command) = words.next() else {
+        return Err(LineError::Bad);
+    };
+    match read_verb(alloc, command, words) {
+        Ok(verb) => Ok(Some(Command { process, verb })),
+        Err(error) => Err(error),
+    }
 }

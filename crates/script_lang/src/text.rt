@@ -1,5 +1,4 @@
-ghost use Rattle.std.specs.Prelude.{◌≡◌, ◌+◌, ◌<◌, ◌≤◌, ◌++◌, length, take, decimal};
-ghost use Rattle.std.specs.Fmt.{signed_decimal};
+ghost use Rattle.std.specs.Prelude.{◌≡◌, ◌+◌, ◌≤◌, ◌++◌, length, take, decimal, codes};
 ghost use Rattle.script_lang.specs.Texts.{refusal_text, collected_mark, reply_words, reply_line};
 
 use crate::{Refusal, Reply};
@@ -16,30 +15,24 @@ fn put(buf: &mut [u8; 512], at: usize, piece: &[u8]) -> usize
     end
 }
 
-/// Writes a number in the same way. It takes at most 40 bytes.
-fn put_number<I: Integer>(buf: &mut [u8; 512], at: usize, number: I) -> usize
-    requires { at + 40 ≤ 512 }
-    ensures written { take result buf.new ≡ take at buf.old ++ I.text number }
-    ensures end { result ≤ at + 40 }
+/// Writes a piece and a number in the same way. The number takes at most 40 bytes.
+fn put_number<I: Integer>(buf: &mut [u8; 512], at: usize, piece: &[u8], number: I) -> usize
+    requires { at + length piece.now + 40 ≤ 512 }
+    ensures written { take result buf.new ≡ take at buf.old ++ piece.now ++ I.text number }
+    ensures end { result ≤ at + length piece.now + 40 }
 {
+    let at = put(buf, at, piece);
     put(buf, at, Buffer::new().format(number).as_bytes())
 }
 
-fn refusal_words(refusal: Refusal) -> &'static [u8]
-    ensures text { result.now ≡ refusal_text refusal }
-    ensures short { length result.now ≤ 40 }
+/// Writes two pieces, each with a number behind it.
+fn put_two(buf: &mut [u8; 512], at: usize, first: &[u8], a: u32, second: &[u8], b: u32) -> usize
+    requires { at + length first.now + length second.now + 80 ≤ 512 }
+    ensures written { take result buf.new ≡ take at buf.old ++ first.now ++ decimal a ++ second.now ++ decimal b }
+    ensures end { result ≤ at + length first.now + length second.now + 80 }
 {
-    match refusal {
-        Refusal::BadLine => b"E1 bad line",
-        Refusal::NoProcess => b"E3 no such process",
-        Refusal::ClassTaken => b"E5 class taken",
-        Refusal::NoClass => b"E6 no such class",
-        Refusal::ClassLimit => b"E7 class limit",
-        Refusal::FieldTaken => b"E8 field taken",
-        Refusal::NoRoot => b"E9 no such root",
-        Refusal::NoField => b"E11 no such field",
-        Refusal::NumberLimit => b"E22 number limit",
-    }
+    let at = put_number(buf, at, first, a);
+    put_number(buf, at, second, b)
 }
 
 fn mark_words(collected: bool) -> &'static [u8]
@@ -49,25 +42,81 @@ fn mark_words(collected: bool) -> &'static [u8]
     if collected { b" gc" } else { b"" }
 }
 
+/// Writes a refusal's words behind the first `at` bytes, and tells where they end.
+fn put_refusal(buf: &mut [u8; 512], at: usize, refusal: Refusal) -> usize
+    requires { at ≤ 100 }
+    ensures written { take result buf.new ≡ take at buf.old ++ refusal_text refusal }
+    ensures end { result ≤ at + 200 }
+{
+    match refusal {
+        Refusal::BadLine => put(buf, at, b"E1 bad line"),
+        Refusal::LineTooLong => put(buf, at, b"E2 line too long"),
+        Refusal::NoProcess => put(buf, at, b"E3 no such process"),
+        Refusal::Exited => put(buf, at, b"E4 process exited"),
+        Refusal::ClassTaken => put(buf, at, b"E5 class taken"),
+        Refusal::NoClass => put(buf, at, b"E6 no such class"),
+        Refusal::ClassLimit => put(buf, at, b"E7 class limit"),
+        Refusal::FieldTaken => put(buf, at, b"E8 field taken"),
+        Refusal::NoRoot => put(buf, at, b"E9 no such root"),
+        Refusal::Null => put(buf, at, b"E10 null"),
+        Refusal::NoField => put(buf, at, b"E11 no such field"),
+        Refusal::NotArray => put(buf, at, b"E12 not an array"),
+        Refusal::IndexRange => put(buf, at, b"E13 index out of range"),
+        Refusal::Misfit => put(buf, at, b"E14 value does not fit"),
+        Refusal::Sealed => put(buf, at, b"E15 already sealed"),
+        Refusal::NotSealed => put(buf, at, b"E16 not sealed"),
+        Refusal::TooLarge => put(buf, at, b"E17 object too large"),
+        Refusal::ImageFull { fill, size } => {
+            put_two(buf, at, b"E18 image full: fill ", fill, b" size ", size)
+        }
+        Refusal::HeapFull { free, needed } => {
+            put_two(buf, at, b"E19 heap full: free ", free, b" needed ", needed)
+        }
+        Refusal::ZygoteFull { fill, total } => {
+            put_two(buf, at, b"E20 zygote full: fill ", fill, b" total ", total)
+        }
+        Refusal::ProcessTaken => put(buf, at, b"E21 process name taken"),
+        Refusal::NumberLimit => put(buf, at, b"E22 number limit"),
+    }
+}
+
 /// Writes the words of a reply behind the first `at` bytes, and tells where they end.
 fn put_reply(buf: &mut [u8; 512], at: usize, reply: &Reply) -> usize
     requires { at ≤ 100 }
     ensures written { take result buf.new ≡ take at buf.old ++ reply_words reply.now }
-    ensures end { result ≤ at + 60 }
+    ensures end { result ≤ at + 300 }
 {
     match *reply {
-        Reply::Class(id) => {
-            let at = put(buf, at, b"class ");
-            put_number(buf, at, id)
-        }
+        Reply::Class(id) => put_number(buf, at, b"class ", id),
         Reply::Made { number, collected } => {
-            let at = put(buf, at, b"#");
-            let at = put_number(buf, at, number);
+            let at = put_number(buf, at, b"#", number);
             put(buf, at, mark_words(collected))
         }
-        Reply::Number(value) => put_number(buf, at, value),
+        Reply::Done => put(buf, at, b"ok"),
+        Reply::Number(value) => put_number(buf, at, b"", value),
         Reply::Null => put(buf, at, b"null"),
-        Reply::Refused(refusal) => put(buf, at, refusal_words(refusal)),
+        Reply::Object(number) => put_number(buf, at, b"#", number),
+        Reply::Shown { number, class } => {
+            let at = put_number(buf, at, b"#", number);
+            let at = put(buf, at, b" ");
+            put(buf, at, class.as_bytes())
+        }
+        Reply::Kept { kept, freed } => put_two(buf, at, b"kept ", kept, b" freed ", freed),
+        Reply::Regions(count) => put_number(buf, at, b"regions ", count),
+        Reply::Pages {
+            image,
+            image_written,
+            zygote,
+            zygote_written,
+            large,
+            large_written,
+        } => {
+            let at = put_two(buf, at, b"image ", image, b" ", image_written);
+            let at = put_two(buf, at, b" zygote ", zygote, b" ", zygote_written);
+            put_two(buf, at, b" large ", large, b" ", large_written)
+        }
+        Reply::Frames(count) => put_number(buf, at, b"frames ", count),
+        Reply::Refused(refusal) => put_refusal(buf, at, refusal),
     }
 }
 
@@ -77,7 +126,7 @@ pub fn reply_text(line: u64, reply: &Reply, buf: &mut [u8; 512]) -> usize
     ensures text { take result buf.new ≡ reply_line line reply.now }
     ensures fits { result ≤ 512 }
 {
-    let at = put_number(buf, 0, line);
+    let at = put_number(buf, 0, b"", line);
     let at = put(buf, at, b": ");
     let at = put_reply(buf, at, reply);
     put(buf, at, b"\n")
