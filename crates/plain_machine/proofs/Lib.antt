@@ -1,4 +1,5 @@
 pub mod Objects
 pub mod Collected
+pub mod Labels
 pub mod Making
 pub mod PageLists

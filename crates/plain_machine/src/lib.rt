@@ -9,6 +9,7 @@ mod makes;
 mod outcome;
 mod pages;
 mod part;
+mod process;
 mod reads;
 mod slots;
 mod stores;

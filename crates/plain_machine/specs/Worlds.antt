@@ -1,0 +1,30 @@
+-- What holds of all processes of a machine, and what a machine stands for.
+use Rattle.std.specs.Prelude.{◌≡◌, ℕ, Bool, false, List, [], ◌∷◌, codes}
+use Rattle.std.specs.List.{list_any}
+use Rattle.class_layout.specs.Names.{same_name}
+use Rattle.heap_world.specs.Part.{first_part}
+use Rattle.heap_world.specs.Sound.{IsSound}
+use Rattle.heap_world.specs.World.{Process, World}
+
+-- the process that a new machine is prepared with
+abbrev pub first_process : ℕ → ℕ → Process
+first_process regions number = record { name = codes "zygote"; part = first_part regions number; labels = [] }
+
+-- no two processes have one name
+abbrev pub AreNamedApart : List Process → Type 0
+AreNamedApart [] = Unit {0}
+AreNamedApart (q ∷ qs) = (list_any (λ r. same_name r.name q.name) qs ≡ false) × AreNamedApart qs
+
+-- each process is sound
+abbrev pub AreSound : List Process → Type 0
+AreSound [] = Unit {0}
+AreSound (q ∷ qs) = IsSound q.part × AreSound qs
+
+-- what holds of the processes of each machine
+pub record ArePossible (qs : List Process) : Type 0 where
+  pub apart : AreNamedApart qs
+  pub sound : AreSound qs
+
+-- a machine stands for a world. The machine that keeps a world as it is stands for that world alone
+unfoldable pub StandsFor : World → World → Type 0
+StandsFor machine world = machine ≡ world
