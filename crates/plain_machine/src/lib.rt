@@ -4,6 +4,7 @@
 
 mod act;
 mod cards;
+mod frames;
 mod lives;
 mod makes;
 mod outcome;
