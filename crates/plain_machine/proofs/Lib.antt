@@ -4,3 +4,4 @@ pub mod Labels
 pub mod Live
 pub mod Making
 pub mod PageLists
+pub mod Worlds

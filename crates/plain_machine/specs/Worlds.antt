@@ -2,9 +2,10 @@
 use Rattle.std.specs.Prelude.{◌≡◌, ℕ, Bool, false, List, [], ◌∷◌, codes}
 use Rattle.std.specs.List.{list_any}
 use Rattle.class_layout.specs.Names.{same_name}
+use Rattle.heap_world.specs.declared.reply.Reply.{Reply}
 use Rattle.heap_world.specs.Part.{first_part}
 use Rattle.heap_world.specs.Sound.{IsSound}
-use Rattle.heap_world.specs.World.{Process, World}
+use Rattle.heap_world.specs.World.{Process, Stepped, World}
 
 -- the process that a new machine is prepared with
 abbrev pub first_process : ℕ → ℕ → Process
@@ -28,3 +29,7 @@ pub record ArePossible (qs : List Process) : Type 0 where
 -- a machine stands for a world. The machine that keeps a world as it is stands for that world alone
 unfoldable pub StandsFor : World → World → Type 0
 StandsFor machine world = machine ≡ world
+
+-- a machine does what is wanted: it has the world, and gives the reply
+abbrev pub Does : Stepped → World → Reply → Type 0
+Does s world reply = (world ≡ s.world) × (reply ≡ s.reply)

@@ -6,6 +6,7 @@ mod act;
 mod cards;
 mod frames;
 mod lives;
+mod machine;
 mod makes;
 mod outcome;
 mod pages;
@@ -14,3 +15,5 @@ mod process;
 mod reads;
 mod slots;
 mod stores;
+
+pub use machine::Machine;

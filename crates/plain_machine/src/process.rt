@@ -1,11 +1,15 @@
-ghost use Rattle.std.specs.Prelude.{◌≡◌, ◌++◌, [], IfOk, OnOk, unwrap_or};
+ghost use Rattle.std.specs.Prelude.{◌≡◌, ◌++◌, [], IfOk, IfSome, OnOk, unwrap_or};
 ghost use Rattle.heap_world.specs.World.{child_process, labelled};
+ghost use Rattle.heap_world.specs.Acts.{act};
+ghost use Rattle.heap_world.specs.Formed.{HasFewFields};
+ghost use Rattle.heap_world.specs.Sound.{IsSound};
+ghost use Rattle.plain_machine.specs.Outcomes.{IsOutcome};
 ghost use Rattle.plain_machine.specs.Worlds.{first_process};
 
 use crate::outcome::Outcome;
 use crate::part::Part;
 use class_layout::Name;
-use heap_world::{Label, PageName};
+use heap_world::{Label, PageName, Verb, parts_are_sound};
 use std::alloc::{AllocError, Global};
 use std::marker::Model;
 
@@ -47,6 +51,18 @@ impl Process {
             part: Part::first(alloc, regions, number)?,
             labels: Vec::new(alloc),
         })
+    }
+
+    /// What a command does. The part after it is sound.
+    pub(crate) fn act(&self, verb: &Verb) -> Result<Outcome, AllocError>
+        requires sound { IsSound self.now.part }
+        requires few { HasFewFields verb.now }
+        ensures done { IfOk result (λ out. IsOutcome self.now.part out (act self.now.part verb.now)) }
+        ensures sound { IfOk result (λ out. IfSome out.next (λ p. IsSound p)) }
+    {
+        parts_are_sound();
+        let outcome = self.part.act(verb)?;
+        Ok(outcome)
     }
 
     /// The labels after an outcome of a line.
