@@ -5,3 +5,4 @@ pub mod Live
 pub mod Making
 pub mod PageLists
 pub mod Worlds
+pub mod Verbs

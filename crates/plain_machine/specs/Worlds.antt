@@ -1,7 +1,9 @@
 -- What holds of all processes of a machine, and what a machine stands for.
-use Rattle.std.specs.Prelude.{◌≡◌, ℕ, Bool, false, List, [], ◌∷◌, codes}
+use Rattle.std.specs.Prelude.{◌≡◌, ℕ, Bool, false, List, [], ◌∷◌, Option, None, Some, codes}
 use Rattle.std.specs.List.{list_any}
 use Rattle.class_layout.specs.Names.{same_name}
+use Rattle.heap_world.specs.declared.command.Verb.{Verb}
+use Rattle.heap_world.specs.declared.command.Verb.TheVariants as verb
 use Rattle.heap_world.specs.declared.reply.Reply.{Reply}
 use Rattle.heap_world.specs.Part.{first_part}
 use Rattle.heap_world.specs.Sound.{IsSound}
@@ -33,3 +35,8 @@ StandsFor machine world = machine ≡ world
 -- a machine does what is wanted: it has the world, and gives the reply
 abbrev pub Does : Stepped → World → Reply → Type 0
 Does s world reply = (world ≡ s.world) × (reply ≡ s.reply)
+
+-- the child that a command asks for, if it is a fork
+abbrev pub forked_child : Verb → Option (List ℕ)
+forked_child (verb.Fork child) = Some child
+forked_child v = None

@@ -1,17 +1,21 @@
 ghost use Rattle.std.specs.Prelude.{◌≡◌, ◌<◌, ◌≤◌, ℕ, List, [], ◌∷◌, ◌++◌, false, Some, length, slice_get, unwrap_or, IfOk, IfSome, OnOk, OnErr, MatchResult};
 ghost use Rattle.std.specs.List.{list_any, position};
+ghost use Rattle.std.specs.Option.{option_copied};
 ghost use Rattle.class_layout.specs.Names.{same_name};
 ghost use Rattle.heap_world.specs.Formed.{HasFewFields};
 ghost use Rattle.heap_world.specs.Sound.{IsSound};
-ghost use Rattle.heap_world.specs.World.{World, empty_world, first_world, put_process, step, stepped};
+ghost use Rattle.heap_world.specs.World.{World, child_process, empty_world, first_world, fork_if, frame_count, put_process, step, step_live, step_process, stepped};
+ghost use Rattle.heap_world.specs.Isolation.{is_frames};
 ghost use Rattle.heap_world.specs.World as worlds;
+ghost use Rattle.heap_world.specs.declared.reply.Reply.{Reply};
 ghost use Rattle.heap_world.specs.Acts.{act};
-ghost use Rattle.plain_machine.specs.Worlds.{Does, StandsFor};
+ghost use Rattle.plain_machine.specs.Worlds.{Does, StandsFor, forked_child};
 
+use crate::frames::frame_count;
 use crate::part::Part;
 use crate::process::Process;
 use class_layout::Name;
-use heap_world::{Label, Reply, Verb, parts_are_sound};
+use heap_world::{Command, Label, Refusal, Reply, Verb, parts_are_sound};
 use std::alloc::{AllocError, Global};
 use std::marker::Model;
 
@@ -23,7 +27,9 @@ pub struct Machine {
 }
 
 impl Model for Machine {
-    ghost use Rattle.heap_world.specs.World as worlds;
+    ghost use Rattle.heap_world.specs.Isolation.{is_frames};
+ghost use Rattle.heap_world.specs.World as worlds;
+ghost use Rattle.heap_world.specs.declared.reply.Reply.{Reply};
     ghost use Rattle.plain_machine.specs.Worlds.{ArePossible};
 
     ghost Value = { worlds.World };
@@ -45,6 +51,23 @@ fn is_taken(processes: &[Process], name: &Name) -> bool
     ensures { result ≡ list_any (λ q. same_name q.name name.now) processes.now }
 {
     processes.iter().any(|q| q.name == *name)
+}
+
+/// The child that a command asks for, if it is a fork.
+fn child_of(verb: &Verb) -> Option<&Name>
+    ensures { option_copied result ≡ forked_child verb.now }
+{
+    match verb {
+        Verb::Fork { child } => Some(child),
+        _ => None,
+    }
+}
+
+/// Whether a command counts the frames of all processes.
+fn is_frames(verb: &Verb) -> bool
+    ensures { result ≡ is_frames verb.now }
+{
+    matches!(verb, Verb::Frames)
 }
 
 /// A process without others.
@@ -127,5 +150,113 @@ impl Machine {
     {
         self.processes.push(child)?;
         Ok(())
+    }
+
+    // A fork. The parent's part and labels after it are the child's too, but that the child was never dumped.
+    fn fork(&mut self, i: usize, line: u64, child: &Name) -> Result<Reply, AllocError>
+        requires within { i < length self.old.processes }
+        ensures { (q : worlds.Process) → slice_get self.old.processes i ≡ Some q → MatchResult result
+            (λ reply. Does (fork_if q.part.graph.sealed self.old line q child.now) self.new reply)
+            (λ _. self.new ≡ self.old) }
+    {
+        let q = self.process(i);
+        if !q.part.graph.is_sealed() {
+            return Ok(Reply::Refused(Refusal::NotSealed));
+        }
+        if is_taken(&self.processes, child) {
+            return Ok(Reply::Refused(Refusal::ProcessTaken));
+        }
+        let outcome = q.act(&Verb::Fork { child: *child })?;
+        let labels = q.labels_after(line, &outcome)?;
+        match outcome.reply {
+            Reply::Done => self.end_fork(i, *child, outcome.next, labels)?,
+            _ => self.settle(i, outcome.next, labels),
+        }
+        Ok(outcome.reply)
+    }
+
+    // The end of a fork that isn't refused: the child is added, and the parent settled.
+    fn end_fork(
+        &mut self,
+        i: usize,
+        child: Name,
+        next: Option<Part>,
+        labels: Vec<Label>,
+    ) -> Result<(), AllocError>
+        requires within { i < length self.old.processes }
+        requires sound { IfSome next (λ p. IsSound p) }
+        requires fresh { list_any (λ q. same_name q.name child) self.old.processes ≡ false }
+        ensures ok { (q : worlds.Process) → slice_get self.old.processes i ≡ Some q → OnOk result
+            (let parent = record q { part = unwrap_or next q.part; labels = labels.items } in
+            self.new ≡ record { processes = (put_process self.old parent).processes ++ child_process parent child ∷ [] }) }
+        ensures err { OnErr result (self.new ≡ self.old) }
+    {
+        let q = self.process(i);
+        let new = q.child_after(child, &next, &labels)?;
+        self.add(new)?;
+        self.settle(i, next, labels);
+        Ok(())
+    }
+
+    // The count of frames, of all live processes.
+    fn frames(&self) -> Result<Reply, AllocError>
+        ensures { IfOk result (λ reply. reply ≡ Reply.Frames (frame_count self.now)) }
+    {
+        let frames = frame_count(self.alloc, &self.processes)?;
+        Ok(Reply::Frames(frames))
+    }
+
+    // A command of the process at a place.
+    #[tactic(auto, using(crate::proofs::Verbs::looking))]
+    fn step_process(&mut self, i: usize, line: u64, verb: &Verb) -> Result<Reply, AllocError>
+        requires within { i < length self.old.processes }
+        requires few { HasFewFields verb.now }
+        ensures { (q : worlds.Process) → slice_get self.old.processes i ≡ Some q → MatchResult result
+            (λ reply. Does (step_process self.old line q verb.now) self.new reply)
+            (λ _. self.new ≡ self.old) }
+    {
+        match child_of(verb) {
+            Some(child) => self.fork(i, line, child),
+            None if is_frames(verb) => self.frames(),
+            None => self.act(i, line, verb),
+        }
+    }
+
+    // The same, unless the process has exited.
+    fn step_at(&mut self, i: usize, line: u64, verb: &Verb) -> Result<Reply, AllocError>
+        requires within { i < length self.old.processes }
+        requires few { HasFewFields verb.now }
+        ensures { (q : worlds.Process) → slice_get self.old.processes i ≡ Some q → MatchResult result
+            (λ reply. Does (step_live q.part.exited self.old line q verb.now) self.new reply)
+            (λ _. self.new ≡ self.old) }
+    {
+        if self.process(i).part.exited {
+            return Ok(Reply::Refused(Refusal::Exited));
+        }
+        self.step_process(i, line, verb)
+    }
+
+    // The command of a line.
+    fn step_line(&mut self, line: u64, command: &Command) -> Result<Reply, AllocError>
+        requires few { HasFewFields command.now.verb }
+        ensures { MatchResult result
+            (λ reply. Does (step self.old line command.now) self.new reply)
+            (λ _. self.new ≡ self.old) }
+    {
+        match place_of(&self.processes, &command.process) {
+            Some(i) => self.step_at(i, line, &command.verb),
+            None => Ok(Reply::Refused(Refusal::NoProcess)),
+        }
+    }
+
+    /// Runs the command of a line, and gives the reply. After `AllocError` nothing has changed.
+    #[tactic(auto, unfolding(crate::specs::Worlds::StandsFor))]
+    pub fn step(&mut self, line: u64, command: &Command) -> Result<Reply, AllocError>
+        requires few { HasFewFields command.now.verb }
+        ensures reply { (w : World) → StandsFor self.old w → IfOk result (λ reply. reply ≡ (step w line command.now).reply) }
+        ensures world { (w : World) → StandsFor self.old w → OnOk result (StandsFor self.new (step w line command.now).world) }
+        ensures err { (w : World) → StandsFor self.old w → OnErr result (StandsFor self.new w) }
+    {
+        self.step_line(line, command)
     }
 }

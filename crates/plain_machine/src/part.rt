@@ -1,8 +1,9 @@
 ghost use Rattle.std.specs.Prelude.{◌≡◌, [], IfOk};
 ghost use Rattle.heap_graph.specs.Fork.{child_of};
 ghost use Rattle.heap_world.specs.Part.{first_part};
+ghost use Rattle.heap_world.specs.Sound.{IsSound};
 
-use heap_world::{Card, PageName};
+use heap_world::{Card, PageName, parts_are_sound};
 use plain_graph::Graph;
 use std::alloc::{AllocError, Global};
 use std::marker::Model;
@@ -59,8 +60,13 @@ impl Part {
 
     /// The part of a fork's child: it was never dumped.
     pub(crate) fn child(&self) -> Result<Part, AllocError>
-        ensures { IfOk result (λ p. p ≡ record self.now { graph = child_of self.now.graph }) }
+        requires sound { IsSound self.now }
+        ensures child { IfOk result (λ p. p ≡ record self.now { graph = child_of self.now.graph }) }
+        ensures sound { IfOk result (λ p. IsSound p) }
     {
-        self.with_graph(self.graph.never_dumped()?)
+        parts_are_sound();
+        let graph = self.graph.never_dumped()?;
+        let child = self.with_graph(graph)?;
+        Ok(child)
     }
 }

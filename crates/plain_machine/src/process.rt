@@ -91,17 +91,34 @@ impl Process {
         }
     }
 
-    /// A fork's child: it has the part, but was never dumped, and the labels.
-    pub(crate) fn child(
+    // The next part, or the part as it is.
+    fn last_part<'a>(&'a self, next: &'a Option<Part>) -> &'a Part
+        requires sound { IsSound self.now.part }
+        requires next_sound { IfSome next.now (λ p. IsSound p) }
+        ensures part { result.now ≡ unwrap_or next.now self.now.part }
+        ensures sound { IsSound result.now }
+    {
+        match next {
+            Some(next) => next,
+            None => &self.part,
+        }
+    }
+
+    /// A fork's child: it has the parent's next part, but was never dumped, and the parent's labels.
+    pub(crate) fn child_after(
+        &self,
         name: Name,
-        part: &Part,
+        next: &Option<Part>,
         labels: &Vec<Label>,
     ) -> Result<Process, AllocError>
-        ensures { IfOk result (λ q. (parent : _) → q ≡ child_process (record { name = parent; part = part.now; labels = labels.now.items }) name) }
+        requires sound { IsSound self.now.part }
+        requires next_sound { IfSome next.now (λ p. IsSound p) }
+        ensures child { IfOk result (λ q. q ≡ child_process (record self.now { part = unwrap_or next.now self.now.part; labels = labels.now.items }) name) }
+        ensures sound { IfOk result (λ q. IsSound q.part) }
     {
         Ok(Process {
             name,
-            part: part.child()?,
+            part: self.last_part(next).child()?,
             labels: labels.clone()?,
         })
     }
