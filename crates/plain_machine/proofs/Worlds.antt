@@ -1,7 +1,7 @@
 -- Processes by place and by name: one put in another's place, and one more.
-use Rattle.std.proofs.Common.{◌≡◌, ℕ, zero, suc, ◌+◌, ◌<◌, Bool, true, false, cond, ◌||◌, List, [], ◌∷◌, ◌++◌, Option, Some, None, map, set, length, nat_lt, slice_index_or, unwrap_or, IfSome, refl, sym, subst, ap, ◌∙◌, arith}
+use Rattle.std.proofs.Common.{◌≡◌, ℕ, zero, suc, ◌+◌, ◌<◌, ◌≤◌, Bool, true, false, cond, ◌||◌, List, [], ◌∷◌, ◌++◌, Option, Some, None, map, set, length, nat_lt, slice_index_or, unwrap_or, IfSome, refl, sym, subst, ap, ◌∙◌, arith}
 use Rattle.std.specs.List.{list_any, position, position_or_len, slice_get}
-use Rattle.std.proofs.lemmas.Bool.{both_ways}
+use Rattle.std.proofs.lemmas.Bool.{ltb-false, ltb-true}
 use Rattle.std.proofs.lemmas.List.{map-append}
 use Rattle.std.proofs.lemmas.List.Folds.{find_at}
 use Rattle.class_layout.specs.Names.{same_name}
@@ -9,20 +9,15 @@ use Rattle.class_layout.proofs.Uniqueness.{names-same, same_name-refl}
 use Rattle.heap_world.specs.declared.names.Label.{Label}
 use Rattle.heap_world.specs.Part.{Part}
 use Rattle.heap_world.specs.Sound.{IsSound}
-use Rattle.heap_world.specs.Effect.{Effect}
-use Rattle.heap_world.specs.World.{Process, World, labelled, process_after, process_named, put_if, put_process, stepped}
+use Rattle.heap_world.specs.World.{Process, World, child_process, process_named, put_if, put_process}
 use Rattle.heap_world.proofs.Processes.{apart-symm, or_false, put, taken, taken-more}
-use Rattle.plain_machine.specs.declared.outcome.Outcome.{Outcome}
-use Rattle.plain_machine.specs.Outcomes.{IsOutcome}
-use Rattle.plain_machine.specs.Worlds.{AreNamedApart, ArePossible, AreSound, Does}
+use Rattle.plain_machine.specs.Worlds.{AreNamedApart, ArePossible, AreSound}
 
--- a process that stands at a place is there by its name, if no other has the name
-get_past : (qs : List Process) (i : ℕ) → slice_get qs i ≡ None → length qs ≡ i → slice_get qs i ≡ None
-get_past qs i h e = h
-
-get_length : (qs : List Process) → slice_get qs (length qs) ≡ None
-get_length [] = refl
-get_length (q ∷ qs) = get_length qs
+-- nothing stands behind the last one
+get_past : (qs : List Process) (i : ℕ) → length qs ≤ i → slice_get qs i ≡ None
+get_past [] i h = refl
+get_past (q ∷ qs) zero h = absurd (omega (arith, h))
+get_past (q ∷ qs) (suc i) h = get_past qs i (omega (arith, h))
 
 -- the place of a name
 pub place_found : (qs : List Process) (name : List ℕ) (i : ℕ) → position (λ q. same_name q.name name) qs ≡ Some i → process_named qs name ≡ slice_get qs i
@@ -160,12 +155,43 @@ module _ (qs : List Process) (i : ℕ) (old new : Process) (next : Option Part) 
       let put_is = put_set qs i old new possible.apart here named in
       sym put_is ∙ ap (λ r. put r qs) (made ∙ ap (λ r. with_next r next labels) same)
 
--- a process that is settled by an outcome is what the outcome's effect makes of it
-pub act_does : (w : World) (line : ℕ) (q : Process) (out : Outcome) (e : Effect) (labels : List Label) (w' : World) → IsOutcome q.part out e
-    → labels ≡ labelled line (out.made.items ++ out.first.items) q.labels → w' ≡ put_process w (with_next q out.next labels) → Does (stepped w line q e) w' out.reply
-act_does w line q out e labels w' is labelled_is put_is =
-    let made : out.made.items ++ out.first.items ≡ e.made ++ e.first = ap (λ xs. xs ++ out.first.items) is.made ∙ ap (λ xs. e.made ++ xs) is.first in
-    let whole : with_next q out.next labels ≡ process_after line e q =
-        ap (λ p. record { name = q.name; part = p; labels = labels }) is.part
-        ∙ ap (λ ls. record { name = q.name; part = e.part; labels = ls }) (labelled_is ∙ ap (λ xs. labelled line xs q.labels) made) in
-    (put_is ∙ ap (put_process w) whole, is.reply)
+-- a child that is added before its parent is settled
+pub forked : (w : World) (i : ℕ) (q : Process) (next : Option Part) (labels : List Label) (child : List ℕ) (new : Process) (w1 w2 : World)
+    → slice_get w.processes i ≡ Some q → taken w.processes child ≡ false → new ≡ child_process (with_next q next labels) child
+    → w1 ≡ record { processes = w.processes ++ new ∷ [] } → w2 ≡ put_process w1 (with_next q next labels)
+    → w2 ≡ record { processes = (put_process w (with_next q next labels)).processes ++ child_process (with_next q next labels) child ∷ [] }
+forked w i q next labels child new w1 w2 there fresh is added put_is =
+    put_is
+    ∙ ap (λ v. put_process v (with_next q next labels)) (added ∙ ap (λ c. record { processes = w.processes ++ c ∷ [] }) is)
+    ∙ ap (λ qs. record { processes = qs }) (put_more w.processes i q (with_next q next labels) (child_process (with_next q next labels) child) there refl fresh)
+
+-- where a name finds no process, it is at no place
+pub place_none : (qs : List Process) (name : List ℕ) → position (λ q. same_name q.name name) qs ≡ None → process_named qs name ≡ None
+place_none qs name h = by (nat_lt at (length qs)) refl h
+  where
+    at : ℕ
+    at = position_or_len (λ q. same_name q.name name) qs
+    by : (b : Bool) → nat_lt at (length qs) ≡ b → cond b (Some at) None ≡ None → process_named qs name ≡ None
+    by true e none = absurd cc
+    by false e none = find_at (λ q. same_name q.name name) qs ∙ get_past qs at (ltb-false at (length qs) e)
+
+-- a place that is found is within
+pub place_within : (qs : List Process) (name : List ℕ) (i : ℕ) → position (λ q. same_name q.name name) qs ≡ Some i → i < length qs
+place_within qs name i h = by (nat_lt at (length qs)) refl h
+  where
+    at : ℕ
+    at = position_or_len (λ q. same_name q.name name) qs
+    by : (b : Bool) → nat_lt at (length qs) ≡ b → cond b (Some at) None ≡ Some i → i < length qs
+    by true e found = let same : at ≡ i = cc in subst (λ k. k < length qs) same (ltb-true at (length qs) e)
+    by false e found = absurd cc
+
+get_within : (qs : List Process) (i : ℕ) → i < length qs → (q : Process) × (slice_get qs i ≡ Some q)
+get_within [] i within = absurd (omega (arith, within))
+get_within (p ∷ ps) zero within = (p, refl)
+get_within (p ∷ ps) (suc i) within = get_within ps i (omega (arith, within))
+
+-- the process of a name, at its place
+pub process_at : (qs : List Process) (name : List ℕ) (i : ℕ) → position (λ q. same_name q.name name) qs ≡ Some i → (q : Process) × (slice_get qs i ≡ Some q) × (process_named qs name ≡ Some q)
+process_at qs name i h =
+    let at = get_within qs i (place_within qs name i h) in
+    (at.0, at.1, place_found qs name i h ∙ at.1)
