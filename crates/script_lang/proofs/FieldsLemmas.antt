@@ -1,5 +1,6 @@
 -- The fields of a class line, read one behind another.
-use Rattle.std.proofs.Common.{◌≡◌, ℕ, suc, List, [], ◌∷◌, ◌++◌, Option, None, Some, length, refl, sym, ◌∙◌, ap, append_assoc}
+use Rattle.std.proofs.Common.{◌≡◌, ℕ, suc, false, List, [], ◌∷◌, ◌++◌, Option, None, Some, Result, Ok, Err, OnOk, is_err, length, refl, sym, ◌∙◌, ap, append_assoc}
+use Rattle.std.proofs.lemmas.Bool.{false≢true}
 use Rattle.std.proofs.lemmas.Option.{none-some, same_Some}
 use Rattle.class_layout.specs.declared.kind.FieldDecl.{FieldDecl}
 use Rattle.script_lang.specs.Forms.{decl_of, with_decl, decls_of}
@@ -33,3 +34,8 @@ length-decls_of (word ∷ ws) fields h = both (decl_of word) (decls_of ws) (leng
     both None os rest e = absurd (none-some fields e)
     both (Some field) None rest e = absurd (none-some fields e)
     both (Some field) (Some more) rest e = ap length (sym (same_Some (field ∷ more) fields e)) ∙ ap (λ (n : ℕ). suc n) (rest more refl)
+
+-- what holds where a call succeeded
+pub on_success : {T E : Type 0} (r : Result T E) (P : Type 0) → false ≡ is_err r → OnOk r P → P
+on_success (Ok x) P h p = p
+on_success (Err e) P h p = absurd (false≢true h)

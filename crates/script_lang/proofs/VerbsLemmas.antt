@@ -10,6 +10,9 @@ use Rattle.script_lang.specs.Grammar.{Entry, verb_in, alone_entries, one_entries
 pub none_of_alone : (word : List ℕ) → same_name word (codes "seal") ≡ false → same_name word (codes "gc") ≡ false → same_name word (codes "exit") ≡ false → same_name word (codes "free") ≡ false → same_name word (codes "pages") ≡ false → same_name word (codes "frames") ≡ false → None ≡ verb_in alone_entries word []
 none_of_alone word a b c d e f = rw (a, b, c, d, e, f) refl
 
+pub none_of_one : (word : List ℕ) (args : List (List ℕ)) → same_name word (codes "drop") ≡ false → same_name word (codes "show") ≡ false → same_name word (codes "fork") ≡ false → None ≡ verb_in one_entries word args
+none_of_one word args a b c = rw (a, b, c) refl
+
 pub none_of_two : (word : List ℕ) (args : List (List ℕ)) → same_name word (codes "new") ≡ false → same_name word (codes "weak") ≡ false → same_name word (codes "get") ≡ false → same_name word (codes "at") ≡ false → same_name word (codes "copy") ≡ false → None ≡ verb_in two_entries word args
 none_of_two word args a b c d e = rw (a, b, c, d, e) refl
 

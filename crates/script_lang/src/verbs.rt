@@ -2,8 +2,8 @@ ghost use Rattle.std.specs.Prelude.{◌≡◌, ◌∷◌, [], IfSome};
 ghost use Rattle.heap_world.specs.Formed.{HasFewFields};
 ghost use Rattle.heap_world.specs.declared.command.Verb.TheVariants as verb;
 ghost use Rattle.script_lang.specs.Numbers.{count_of};
-ghost use Rattle.script_lang.specs.Forms.{root_of, field_of, kind_of, value_of};
-ghost use Rattle.script_lang.specs.Grammar.{three, verb_in, alone_entries, one_entries, two_entries, three_entries, fixed_entries};
+ghost use Rattle.script_lang.specs.Forms.{root_of, class_of, field_of, kind_of, value_of};
+ghost use Rattle.script_lang.specs.Grammar.{one, two, three, verb_in, alone_entries, one_entries, two_entries, three_entries, fixed_entries};
 
 use crate::Verb;
 use crate::forms::{class_name, field_name, kind, root_name, value};
@@ -26,18 +26,94 @@ fn alone_verb(word: &[u8]) -> Option<Verb>
     }
 }
 
+fn drop_verb(a: &[u8]) -> Option<Verb>
+    ensures asked { result ≡ one root_of verb.Drop (a.now ∷ []) }
+    ensures few_fields { IfSome result HasFewFields }
+{
+    Some(Verb::Drop {
+        root: root_name(a)?,
+    })
+}
+
+fn show_verb(a: &[u8]) -> Option<Verb>
+    ensures asked { result ≡ one root_of verb.Show (a.now ∷ []) }
+    ensures few_fields { IfSome result HasFewFields }
+{
+    Some(Verb::Show {
+        root: root_name(a)?,
+    })
+}
+
+fn fork_verb(a: &[u8]) -> Option<Verb>
+    ensures asked { result ≡ one root_of verb.Fork (a.now ∷ []) }
+    ensures few_fields { IfSome result HasFewFields }
+{
+    Some(Verb::Fork {
+        child: root_name(a)?,
+    })
+}
+
 /// What a command's word asks with one word behind it.
 fn one_word_verb(word: &[u8], a: &[u8]) -> Option<Verb>
     ensures asked { result ≡ verb_in one_entries word.now (a.now ∷ []) }
     ensures few_fields { IfSome result HasFewFields }
 {
-    let name = root_name(a)?;
     match word {
-        b"drop" => Some(Verb::Drop { root: name }),
-        b"show" => Some(Verb::Show { root: name }),
-        b"fork" => Some(Verb::Fork { child: name }),
+        b"drop" => drop_verb(a),
+        b"show" => show_verb(a),
+        b"fork" => fork_verb(a),
         _ => None,
     }
+}
+
+fn new_verb(a: &[u8], b: &[u8]) -> Option<Verb>
+    ensures asked { result ≡ two root_of class_of verb.New (a.now ∷ b.now ∷ []) }
+    ensures few_fields { IfSome result HasFewFields }
+{
+    Some(Verb::New {
+        root: root_name(a)?,
+        class: class_name(b)?,
+    })
+}
+
+fn weak_verb(a: &[u8], b: &[u8]) -> Option<Verb>
+    ensures asked { result ≡ two root_of root_of verb.Weak (a.now ∷ b.now ∷ []) }
+    ensures few_fields { IfSome result HasFewFields }
+{
+    Some(Verb::Weak {
+        root: root_name(a)?,
+        referent: root_name(b)?,
+    })
+}
+
+fn get_verb(a: &[u8], b: &[u8]) -> Option<Verb>
+    ensures asked { result ≡ two root_of field_of verb.Get (a.now ∷ b.now ∷ []) }
+    ensures few_fields { IfSome result HasFewFields }
+{
+    Some(Verb::Get {
+        root: root_name(a)?,
+        field: field_name(b)?,
+    })
+}
+
+fn at_verb(a: &[u8], b: &[u8]) -> Option<Verb>
+    ensures asked { result ≡ two root_of count_of verb.At (a.now ∷ b.now ∷ []) }
+    ensures few_fields { IfSome result HasFewFields }
+{
+    Some(Verb::At {
+        root: root_name(a)?,
+        index: count(b)?,
+    })
+}
+
+fn copy_verb(a: &[u8], b: &[u8]) -> Option<Verb>
+    ensures asked { result ≡ two root_of root_of verb.Copy (a.now ∷ b.now ∷ []) }
+    ensures few_fields { IfSome result HasFewFields }
+{
+    Some(Verb::Copy {
+        to: root_name(a)?,
+        from: root_name(b)?,
+    })
 }
 
 /// What a command's word asks with two words behind it.
@@ -45,28 +121,12 @@ fn two_word_verb(word: &[u8], a: &[u8], b: &[u8]) -> Option<Verb>
     ensures asked { result ≡ verb_in two_entries word.now (a.now ∷ b.now ∷ []) }
     ensures few_fields { IfSome result HasFewFields }
 {
-    let root = root_name(a)?;
     match word {
-        b"new" => Some(Verb::New {
-            root,
-            class: class_name(b)?,
-        }),
-        b"weak" => Some(Verb::Weak {
-            root,
-            referent: root_name(b)?,
-        }),
-        b"get" => Some(Verb::Get {
-            root,
-            field: field_name(b)?,
-        }),
-        b"at" => Some(Verb::At {
-            root,
-            index: count(b)?,
-        }),
-        b"copy" => Some(Verb::Copy {
-            to: root,
-            from: root_name(b)?,
-        }),
+        b"new" => new_verb(a, b),
+        b"weak" => weak_verb(a, b),
+        b"get" => get_verb(a, b),
+        b"at" => at_verb(a, b),
+        b"copy" => copy_verb(a, b),
         _ => None,
     }
 }

@@ -8,5 +8,10 @@ returns-in-frames-clause-asked c =
     let e : c.args.word.now ≡ codes "frames" = text_from_reads c.args.word.now (codes "frames") (omega arith) (search rules) in
     rw e
 
+pub returns-in-pages-clause-asked : goal.returns-in-pages-clause-asked
+returns-in-pages-clause-asked c =
+    let e : c.args.word.now ≡ codes "pages" = text_from_reads c.args.word.now (codes "pages") (omega arith) (search rules) in
+    rw e
+
 pub returns-in_default-clause-asked : goal.returns-in_default-clause-asked
 returns-in_default-clause-asked c = none_of_alone c.args.word.now (search rules) (search rules) (search rules) (search rules) (search rules) (search rules)
