@@ -9,7 +9,7 @@ use class_layout::Classes;
 use heap_graph::Place;
 
 // Where the zygote window begins.
-const ZYGOTE_BASE: u64 = 0x3000_0000;
+pub(crate) const ZYGOTE_BASE: u64 = 0x3000_0000;
 
 impl Graph {
     /// The bytes of the image's objects.

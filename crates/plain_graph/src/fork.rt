@@ -6,15 +6,14 @@ ghost use Rattle.heap_world.specs.Formed.{IsFormed};
 ghost use Rattle.plain_graph.specs.Shapes.{AreSmall, HasClass};
 ghost use Rattle.plain_graph.specs.Spots.{young_bytes};
 
+use crate::fills::ZYGOTE_BASE;
 use crate::sizes::{PAGE_BYTES, size_in};
 use crate::{Graph, Object};
 use class_layout::Classes;
 use heap_graph::Place;
 use std::alloc::{AllocError, Global};
 
-// Where the zygote window begins, and its bytes.
-const ZYGOTE_BASE: u64 = 0x3000_0000;
-
+// The bytes of the zygote window.
 const ZYGOTE_BYTES: u64 = 0x1000_0000;
 
 impl Graph {
