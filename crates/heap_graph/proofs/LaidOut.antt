@@ -51,9 +51,9 @@ module _ (P : Laid → Type 0) (first : P bare) (step : (weak : Bool) (laid : La
 pub multiple-le : (k : Kind) (p : ℕ) → p ≤ next_multiple (kind_bytes k) p
 multiple-le k p = elim k as (λ k. p ≤ next_multiple (kind_bytes k) p) [ Ref ↦ omega arith | _ ↦ omega arith ]
 
--- the header and each field lie before the end
+-- the header lies before the end, and each field between them
 abbrev pub LieWithin : Laid → Type 0
-LieWithin l = (8 ≤ l.end) × AllByRecursion (λ p. p.at.offset + kind_bytes p.at.kind ≤ l.end) l.fields
+LieWithin l = (8 ≤ l.end) × AllByRecursion (λ p. (8 ≤ p.at.offset) × (p.at.offset + kind_bytes p.at.kind ≤ l.end)) l.fields
 
 within-bare : LieWithin bare
 within-bare = (omega arith, tt)
@@ -62,10 +62,11 @@ within-step : (weak : Bool) (laid : Laid) (f : FieldDecl) → LieWithin laid →
 within-step weak laid f h =
     let le = multiple-le f.kind laid.end in
     let offset : ℕ = next_multiple (kind_bytes f.kind) laid.end in
-    let more : (p : Placed) → p.at.offset + kind_bytes p.at.kind ≤ laid.end → p.at.offset + kind_bytes p.at.kind ≤ offset + kind_bytes f.kind = λ p e. omega (arith, le, e) in (
+    let Lies : Placed → Type 0 = λ p. (8 ≤ p.at.offset) × (p.at.offset + kind_bytes p.at.kind ≤ offset + kind_bytes f.kind) in
+    let more : (p : Placed) → (8 ≤ p.at.offset) × (p.at.offset + kind_bytes p.at.kind ≤ laid.end) → Lies p = λ p e. (e.0, omega (arith, le, e.1)) in (
       omega (arith, le, h.0),
-      all-push (λ p. p.at.offset + kind_bytes p.at.kind ≤ offset + kind_bytes f.kind) laid.fields (record { name = f.name; at = record { kind = f.kind; offset = offset; weak = weak } })
-          (all-weaken _ _ more laid.fields h.1) (omega arith),
+      all-push Lies laid.fields (record { name = f.name; at = record { kind = f.kind; offset = offset; weak = weak } })
+          (all-weaken _ Lies more laid.fields h.1) (omega (arith, le, h.0), omega arith),
     )
 
 pub lie-within : (cs : List Class) (k : ℕ) → LieWithin (layout_of cs k)

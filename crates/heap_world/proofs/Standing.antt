@@ -36,21 +36,23 @@ standing-is g h before after image zygote promoted =
     ∙ ap (λ n. image_pages g ++ map Zygote (count_from 0 (parts_for 4096 n)) ++ promoted_pages h) top
     ∙ ap (λ ps. image_pages g ++ zygote_pages g ++ ps) promoted
 
--- a slot begins before the object's end
-array-within : (k : Kind) (i count : ℕ) → i < count → first_element k + i * kind_bytes k < first_element k + count * kind_bytes k
-array-within k i count less = elim k as (λ k. first_element k + i * kind_bytes k < first_element k + count * kind_bytes k) [ Ref ↦ omega arith | _ ↦ omega arith ]
+-- a slot lies behind the header and before the object's end
+array-within : (k : Kind) (i count : ℕ) → i < count → (8 ≤ first_element k + i * kind_bytes k) × (first_element k + i * kind_bytes k + kind_bytes k ≤ first_element k + count * kind_bytes k)
+array-within k i count less =
+    elim k as (λ k. (8 ≤ first_element k + i * kind_bytes k) × (first_element k + i * kind_bytes k + kind_bytes k ≤ first_element k + count * kind_bytes k)) [ Ref ↦ (omega arith, omega arith) | _ ↦ (omega arith, omega arith) ]
 
 bytes-least : (k : Kind) → 1 ≤ kind_bytes k
 bytes-least k = elim k as (λ k. 1 ≤ kind_bytes k) [ Ref ↦ omega arith | _ ↦ omega arith ]
 
-pub slot-within : (cs : List Class) (shape : Shape) (at : FieldAt) → HasSlot cs shape at → at.offset < unrounded cs shape
-slot-within cs (Instance class) at has =
+pub slot-lies : (cs : List Class) (shape : Shape) (at : FieldAt) → HasSlot cs shape at → (8 ≤ at.offset) × (at.offset + kind_bytes at.kind ≤ unrounded cs shape)
+slot-lies cs (Instance class) at has =
     let end : ℕ = (layout_of cs class).end in
-    let within : at.offset + kind_bytes at.kind ≤ end =
-    found-all (λ at. at.offset + kind_bytes at.kind ≤ end) (layout_of cs class).fields has.0 at (lie-within cs class).1 has.1 in
-    omega (arith, within, bytes-least at.kind)
-slot-within cs (Array kind count) at has =
-    subst (λ (x : FieldAt). x.offset < first_element kind + count * kind_bytes kind) (sym has.2) (array-within kind has.0 count has.1)
+    found-all (λ at. (8 ≤ at.offset) × (at.offset + kind_bytes at.kind ≤ end)) (layout_of cs class).fields has.0 at (lie-within cs class).1 has.1
+slot-lies cs (Array kind count) at has =
+    subst (λ (x : FieldAt). (8 ≤ x.offset) × (x.offset + kind_bytes x.kind ≤ first_element kind + count * kind_bytes kind)) (sym has.2) (array-within kind has.0 count has.1)
+
+slot-within : (cs : List Class) (shape : Shape) (at : FieldAt) → HasSlot cs shape at → at.offset < unrounded cs shape
+slot-within cs shape at has = let lies = slot-lies cs shape at has in omega (arith, lies.1, bytes-least at.kind)
 
 -- a counted page is one of those that are counted
 pub in-count : (page : ℕ → PageName) (start n m : ℕ) → start ≤ m → m < start + n → is_touched (map page (count_from start n)) (page m) ≡ true

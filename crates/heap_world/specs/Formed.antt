@@ -79,6 +79,7 @@ is_referent cs (Array kind count) offset = false
 abbrev pub AreReferents : List Class → Object → Type 0
 AreReferents cs o = AllByRecursion (λ s. s.at.weak ≡ is_referent cs o.shape s.at.offset) o.slots
 
+-- an object stands in the image
 abbrev pub is_in_image : Place → Bool
 is_in_image (place.Image spot) = true
 is_in_image (place.Zygote spot) = false

@@ -1,11 +1,16 @@
 //! What every command keeps of a process's graph.
-ghost use Rattle.std.specs.Prelude.{◌≤◌, ℕ};
+ghost use Rattle.std.specs.Prelude.{◌≡◌, ◌+◌, ◌≤◌, ℕ, List};
+ghost use Rattle.class_layout.specs.ClassList.{Class, IsClassList};
+ghost use Rattle.class_layout.specs.Kinds.{kind_bytes};
+ghost use Rattle.class_layout.specs.declared.kind.FieldAt.{FieldAt};
 ghost use Rattle.heap_graph.specs.Fork.{child_of};
 ghost use Rattle.heap_graph.specs.Graph.{Graph, first_graph};
 ghost use Rattle.heap_graph.specs.Packing.{places_from, young_sizes};
 ghost use Rattle.heap_graph.specs.Paths.{ArePacked};
+ghost use Rattle.heap_graph.specs.Sizes.{unrounded};
+ghost use Rattle.heap_graph.specs.declared.names.Shape.{Shape};
 ghost use Rattle.heap_world.specs.Acts.{act};
-ghost use Rattle.heap_world.specs.Formed.{HasFewFields, IsFormed};
+ghost use Rattle.heap_world.specs.Formed.{HasFewFields, HasSlot, IsFormed, is_referent};
 ghost use Rattle.heap_world.specs.Part.{Part};
 ghost use Rattle.heap_world.specs.declared.command.Verb.{Verb};
 
@@ -19,4 +24,12 @@ pub fn graphs_are_formed()
 /// The young objects of a formed graph lie in one region each, rise and don't overlap.
 pub fn formed_graphs_are_packed()
     ensures { (g : Graph) → IsFormed g → ArePacked 0 (young_sizes g) (places_from 0 (young_sizes g)) }
+{}
+
+/// A slot of a shape lies behind the header and before the object's end, and it is weak exactly where it is the
+/// referent of a weak reference.
+pub fn slots_lie_in_objects()
+    ensures header { (cs : List Class) (shape : Shape) (at : FieldAt) → HasSlot cs shape at → 8 ≤ at.offset }
+    ensures within { (cs : List Class) (shape : Shape) (at : FieldAt) → HasSlot cs shape at → at.offset + kind_bytes at.kind ≤ unrounded cs shape }
+    ensures weak { (cs : List Class) (shape : Shape) (at : FieldAt) → IsClassList cs → HasSlot cs shape at → at.weak ≡ is_referent cs shape at.offset }
 {}

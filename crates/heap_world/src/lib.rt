@@ -11,7 +11,7 @@ mod reply;
 mod sound;
 
 pub use command::{Command, FieldList, Verb};
-pub use formed::{formed_graphs_are_packed, graphs_are_formed};
+pub use formed::{formed_graphs_are_packed, graphs_are_formed, slots_lie_in_objects};
 pub use laws::{a_child_is_its_parent, a_step_leaves_other_processes, processes_are_isolated};
 pub use names::{Card, Label, PageName};
 pub use reply::{Refusal, Reply};
