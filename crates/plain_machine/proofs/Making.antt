@@ -1,7 +1,6 @@
 -- How a making ends, and the bounds of what it tells.
 use Rattle.std.proofs.Common.{◌≡◌, ℕ, ◌+◌, ◌-◌, ◌/◌, ◌≤◌, Bool, true, false, not, List, refl, sym, subst, arith, nat_le, nat_eq}
 use Rattle.std.proofs.lemmas.Bool.{false≢true, leb-true}
-
 use Rattle.heap_graph.specs.declared.names.Shape.{Shape}
 use Rattle.heap_graph.specs.declared.names.Stored.{Stored}
 use Rattle.heap_graph.specs.Allocation.{Allocated, has_room, make, make_by, make_collected, make_if, make_if_collected, make_in_image, needs, needs_if}
@@ -69,8 +68,8 @@ pub full_fits : (g : Graph) (shape : Shape) (slots : List Stored) (h : Graph) (r
 full_fits g shape slots h room need small e =
     let told : TellsFill g shape slots (allocated.HeapFull h room need) = subst (TellsFill g shape slots) e (make_tells g shape slots) in
     let bytes : unrounded g.classes shape ≤ 1048576 =
-        let fits = not_too_large (unrounded g.classes shape) (most_bytes (is_primitive_array shape)) small in
-        let most = most_small (is_primitive_array shape) in
-        omega (arith, fits, most) in
+    let fits = not_too_large (unrounded g.classes shape) (most_bytes (is_primitive_array shape)) small in
+    let most = most_small (is_primitive_array shape) in
+    omega (arith, fits, most) in
     let few = needs_small (collect g) shape (is_large g.classes shape) bytes in
     (omega (arith, told.0), omega (arith, told.1, few))

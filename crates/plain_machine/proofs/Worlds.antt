@@ -25,6 +25,7 @@ place_found qs name i h = by (nat_lt at (length qs)) h
   where
     at : ℕ
     at = position_or_len (λ q. same_name q.name name) qs
+
     by : (b : Bool) → cond b (Some at) None ≡ Some i → process_named qs name ≡ slice_get qs i
     by true e = let same : at ≡ i = cc in find_at (λ q. same_name q.name name) qs ∙ ap (slice_get qs) same
     by false e = absurd cc
@@ -98,7 +99,7 @@ apart_more [] c apart h = (refl, tt)
 apart_more (p ∷ ps) c apart h =
     let parts = or_false (same_name p.name c.name) (taken ps c.name) h in
     let other : (taken ps p.name || same_name c.name p.name) ≡ false =
-        ap (λ b. b || same_name c.name p.name) apart.0 ∙ apart-symm p.name c.name parts.0 in
+    ap (λ b. b || same_name c.name p.name) apart.0 ∙ apart-symm p.name c.name parts.0 in
     (taken-more ps p.name c ∙ other, apart_more ps c apart.1 parts.1)
 
 pub possible_more : (qs : List Process) (c : Process) → ArePossible qs → taken qs c.name ≡ false → IsSound c.part → ArePossible (qs ++ c ∷ [])
@@ -171,6 +172,7 @@ place_none qs name h = by (nat_lt at (length qs)) refl h
   where
     at : ℕ
     at = position_or_len (λ q. same_name q.name name) qs
+
     by : (b : Bool) → nat_lt at (length qs) ≡ b → cond b (Some at) None ≡ None → process_named qs name ≡ None
     by true e none = absurd cc
     by false e none = find_at (λ q. same_name q.name name) qs ∙ get_past qs at (ltb-false at (length qs) e)
@@ -181,6 +183,7 @@ place_within qs name i h = by (nat_lt at (length qs)) refl h
   where
     at : ℕ
     at = position_or_len (λ q. same_name q.name name) qs
+
     by : (b : Bool) → nat_lt at (length qs) ≡ b → cond b (Some at) None ≡ Some i → i < length qs
     by true e found = let same : at ≡ i = cc in subst (λ k. k < length qs) same (ltb-true at (length qs) e)
     by false e found = absurd cc

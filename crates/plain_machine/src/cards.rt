@@ -87,7 +87,12 @@ fn is_outward(graph: &Graph, slot: Slot) -> bool
 }
 
 /// Adds the card of a slot at a place, where the slot is outward.
-fn push_card(graph: &Graph, place: Place, s: &Stored, cards: &mut Vec<Card>) -> Result<(), AllocError>
+fn push_card(
+    graph: &Graph,
+    place: Place,
+    s: &Stored,
+    cards: &mut Vec<Card>,
+) -> Result<(), AllocError>
     ensures { OnOk result (cards.new.items ≡ cards.old.items ++ cards_if (is_outward graph.now s.now.value) place s.now.at.offset) }
 {
     if is_outward(graph, s.value) {

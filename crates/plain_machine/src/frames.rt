@@ -37,11 +37,7 @@ fn new_label(label: &Label, more: &[Label]) -> usize
     ensures value { result + length (distinct_labels more.now) ≡ length (distinct_labels (label.now ∷ more.now)) }
     ensures small { result ≤ 1 }
 {
-    if is_label_among(more, label) {
-        0
-    } else {
-        1
-    }
+    if is_label_among(more, label) { 0 } else { 1 }
 }
 
 /// How many different labels there are.
@@ -69,11 +65,7 @@ fn new_number(number: u64, more: &[u64]) -> usize
     ensures value { result + length (distinct more.now) ≡ length (distinct (number ∷ more.now)) }
     ensures small { result ≤ 1 }
 {
-    if is_number_among(more, number) {
-        0
-    } else {
-        1
-    }
+    if is_number_among(more, number) { 0 } else { 1 }
 }
 
 /// How many different numbers there are.

@@ -28,8 +28,8 @@ pub struct Machine {
 
 impl Model for Machine {
     ghost use Rattle.heap_world.specs.Isolation.{is_frames};
-ghost use Rattle.heap_world.specs.World as worlds;
-ghost use Rattle.heap_world.specs.declared.reply.Reply.{Reply};
+    ghost use Rattle.heap_world.specs.World as worlds;
+    ghost use Rattle.heap_world.specs.declared.reply.Reply.{Reply};
     ghost use Rattle.plain_machine.specs.Worlds.{ArePossible};
 
     ghost Value = { worlds.World };

@@ -105,12 +105,7 @@ impl Part {
     }
 
     // Makes an object of a shape that is not too large, with some slots stored to.
-    fn make_slots(
-        &self,
-        root: Name,
-        shape: Shape,
-        slots: &[Stored],
-    ) -> Result<Outcome, AllocError>
+    fn make_slots(&self, root: Name, shape: Shape, slots: &[Stored]) -> Result<Outcome, AllocError>
         requires sound { IsSound self.now }
         requires class { HasClass self.now.graph.classes shape }
         requires small { is_too_large self.now.graph.classes shape ≡ false }

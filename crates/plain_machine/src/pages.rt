@@ -34,7 +34,11 @@ pub(crate) fn is_touched(pages: &[PageName], page: &PageName) -> bool
 
 /// So many pages of the image, from one on.
 #[tactic(auto, using(crate::proofs::PageLists::row_more))]
-pub(crate) fn image_pages(alloc: Global, start: u32, count: u32) -> Result<Vec<PageName>, AllocError>
+pub(crate) fn image_pages(
+    alloc: Global,
+    start: u32,
+    count: u32,
+) -> Result<Vec<PageName>, AllocError>
     requires { start + count < 2 ^ 32 }
     ensures { IfOk result (λ pages. pages.items ≡ map page.Image (count_from start count)) }
 {
@@ -47,7 +51,11 @@ pub(crate) fn image_pages(alloc: Global, start: u32, count: u32) -> Result<Vec<P
 
 /// So many pages of the zygote window, from one on.
 #[tactic(auto, using(crate::proofs::PageLists::row_more))]
-pub(crate) fn zygote_pages(alloc: Global, start: u32, count: u32) -> Result<Vec<PageName>, AllocError>
+pub(crate) fn zygote_pages(
+    alloc: Global,
+    start: u32,
+    count: u32,
+) -> Result<Vec<PageName>, AllocError>
     requires { start + count < 2 ^ 32 }
     ensures { IfOk result (λ pages. pages.items ≡ map page.Zygote (count_from start count)) }
 {
@@ -60,7 +68,11 @@ pub(crate) fn zygote_pages(alloc: Global, start: u32, count: u32) -> Result<Vec<
 
 /// The first so many pages of the large object of a number.
 #[tactic(auto, using(crate::proofs::PageLists::row_more_from_0))]
-pub(crate) fn large_pages(alloc: Global, number: u32, count: u32) -> Result<Vec<PageName>, AllocError>
+pub(crate) fn large_pages(
+    alloc: Global,
+    number: u32,
+    count: u32,
+) -> Result<Vec<PageName>, AllocError>
     ensures { IfOk result (λ pages. pages.items ≡ map (page.Large number) (count_from 0 count)) }
 {
     let mut pages = Vec::new(alloc);
@@ -113,7 +125,10 @@ pub(crate) fn page_in(o: &Object, offset: u32) -> Option<PageName>
     match o.place() {
         Place::Image(spot) => Some(PageName::Image(page_of(spot, offset, IMAGE_BASE))),
         Place::Zygote(spot) => Some(PageName::Zygote(page_of(spot, offset, ZYGOTE_BASE))),
-        Place::Large | Place::Promoted => Some(PageName::Large(o.number(), offset / PAGE_BYTES as u32)),
+        Place::Large | Place::Promoted => Some(PageName::Large(
+            o.number(),
+            offset / PAGE_BYTES as u32,
+        )),
         Place::Young => None,
     }
 }

@@ -117,12 +117,7 @@ impl Part {
     }
 
     /// Lets a root hold what a field holds.
-    pub(crate) fn load(
-        &self,
-        to: Name,
-        from: &Name,
-        field: &Name,
-    ) -> Result<Outcome, AllocError>
+    pub(crate) fn load(&self, to: Name, from: &Name, field: &Name) -> Result<Outcome, AllocError>
         requires sound { IsSound self.now }
         ensures { IfOk result (λ out. IsOutcome self.now out (effect_or self.now (load_field self.now to from.now field.now))) }
     {
@@ -133,12 +128,7 @@ impl Part {
     }
 
     /// Lets a root hold what an element holds.
-    pub(crate) fn load_at(
-        &self,
-        to: Name,
-        from: &Name,
-        index: u32,
-    ) -> Result<Outcome, AllocError>
+    pub(crate) fn load_at(&self, to: Name, from: &Name, index: u32) -> Result<Outcome, AllocError>
         requires sound { IsSound self.now }
         ensures { IfOk result (λ out. IsOutcome self.now out (effect_or self.now (load_element self.now to from.now index))) }
     {

@@ -90,7 +90,11 @@ impl Part {
         ensures { result ≡ slot_named self.now.graph.classes o.now.shape field.now }
     {
         match o.shape() {
-            Shape::Instance(class) => self.graph.classes().field(class, field).ok_or(Refusal::NoField),
+            Shape::Instance(class) => self
+                .graph
+                .classes()
+                .field(class, field)
+                .ok_or(Refusal::NoField),
             Shape::Array { .. } => Err(Refusal::NoField),
         }
     }

@@ -65,7 +65,9 @@ impl Part {
     fn store(&self, o: &Object, at: &FieldAt, value: Slot) -> Result<Outcome, AllocError>
         ensures { IfOk result (λ out. IsOutcome self.now out (store self.now o.now at.now value)) }
     {
-        let graph = self.graph.with_slot(o.number(), &Stored { at: *at, value })?;
+        let graph = self
+            .graph
+            .with_slot(o.number(), &Stored { at: *at, value })?;
         if !o.is_immune(self.graph.is_sealed()) {
             return self.becomes(graph, Reply::Done);
         }
@@ -140,12 +142,7 @@ impl Part {
     }
 
     /// Stores a value in an element.
-    pub(crate) fn put(
-        &self,
-        root: &Name,
-        index: u32,
-        value: &Value,
-    ) -> Result<Outcome, AllocError>
+    pub(crate) fn put(&self, root: &Name, index: u32, value: &Value) -> Result<Outcome, AllocError>
         requires sound { IsSound self.now }
         ensures { IfOk result (λ out. IsOutcome self.now out (effect_or self.now (put_element self.now root.now index value.now))) }
     {

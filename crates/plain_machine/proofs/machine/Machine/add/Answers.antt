@@ -10,5 +10,5 @@ pub invariant_of-self-2 : goal.invariant_of-self-2
 invariant_of-self-2 c =
     let seen : record { processes = c.self.inside.processes.items } ≡ c.args.self.now = c.self.view_is in
     let fresh : list_any (λ q. same_name q.name c.args.child.name) c.self.inside.processes.items ≡ false =
-        subst (λ w. list_any (λ q. same_name q.name c.args.child.name) w.processes ≡ false) (sym seen) c.requires.fresh in
+    subst (λ w. list_any (λ q. same_name q.name c.args.child.name) w.processes ≡ false) (sym seen) c.requires.fresh in
     subst ArePossible (sym c.in_ok-push.ensures.items) (possible_more c.self.inside.processes.items c.args.child c.self.invariant fresh c.requires.sound)

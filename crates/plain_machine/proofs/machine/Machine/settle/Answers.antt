@@ -16,5 +16,5 @@ returns c q h =
     let within : c.args.i < length c.self.inside.processes.items = subst (λ w. c.args.i < length w.processes) (sym seen) c.requires.within in
     let there : slice_get c.self.inside.processes.items c.args.i ≡ Some q = ap (λ w. slice_get w.processes c.args.i) seen ∙ h in
     let put_is = settled_put c.self.inside.processes.items c.args.i c.index_mut.result.now c.settle.new.self c.args.next c.args.labels.items c.self.invariant
-        within c.index_mut.ensures.value c.settle.ensures c.requires.sound q there in
+    within c.index_mut.ensures.value c.settle.ensures c.requires.sound q there in
     ap (λ qs. record { processes = qs }) put_is ∙ ap (λ w. put_process w (with_next q c.args.next c.args.labels.items)) seen
