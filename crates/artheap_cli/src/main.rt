@@ -10,7 +10,7 @@ use std::{env, io};
 fn message(status: Status) -> Option<&'static str> {
     match status {
         Status::Ok | Status::Refused | Status::NotDump => None,
-        Status::Usage => Some("usage: artheap run"),
+        Status::Usage => Some("usage: artheap run [--regions N]"),
         Status::ReadFault => Some("artheap: read fault"),
         Status::WriteFault => Some("artheap: write fault"),
         Status::OutOfMemory => Some("artheap: out of memory"),

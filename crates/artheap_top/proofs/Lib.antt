@@ -1,3 +1,3 @@
-pub mod ObjectLemmas
+pub mod InputLemmas
 pub mod Outside
 pub mod RunLemmas

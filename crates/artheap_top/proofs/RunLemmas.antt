@@ -6,12 +6,15 @@ use Rattle.std.proofs.lemmas.List.{take-append-le, take_min}
 use Rattle.artheap_top.specs.declared.run.Stop.{Stop}
 use Rattle.artheap_top.specs.declared.run.Stop.TheVariants.{Read, Write, Memory, TooLong}
 use Rattle.script_lang.specs.Parts.{lines}
-use Rattle.script_lang.specs.Texts.{reply_line, is_refusal}
-use Rattle.script_lang.specs.declared.reply.Reply.{Reply}
+use Rattle.script_lang.specs.Texts.{reply_line}
+use Rattle.heap_world.specs.declared.reply.Reply.{Reply}
+use Rattle.heap_world.specs.Effect.{is_refusal}
+use Rattle.heap_world.specs.Run.{Answer}
+use Rattle.heap_world.specs.World.{World, first_world}
+use Rattle.plain_machine.specs.Worlds.{StandsFor}
 use Rattle.ah_outside.specs.Outside.{FaultRose, Gained}
-use Rattle.artheap_top.specs.World.{World, StandsFor}
-use Rattle.artheap_top.specs.Report.{Answer, step_line, with_answer, answers_from, answers, last_world, world_after, report_of, has_refusal}
-use Rattle.artheap_top.specs.Ends.{RanLines, StoppedLines, StopsLines, TookAll, RanToEnd, Stopped, regions}
+use Rattle.artheap_top.specs.Report.{step_line, with_answer, answers_from, answers, last_world, world_after, report_of, has_refusal}
+use Rattle.artheap_top.specs.Ends.{RanLines, StoppedLines, StoppedTaking, StopsLines, TookAll, RanToEnd, Stopped}
 use Rattle.artheap_top.proofs.Outside.{Gained-more}
 
 -- what a run of lines kept so far: it told a part of the report, and the rest of the lines gives the rest
@@ -22,7 +25,7 @@ pub record RunSoFar (w : World) (text rest : List ℕ) (number : ℕ) (refused :
   pub told : Gained gained bytes gained'
   pub report : bytes ++ report_of (answers_from world number (lines rest)) ≡ report_of (answers_from w 1 (lines text))
   pub refusals : (refused || has_refusal (answers_from world number (lines rest))) ≡ has_refusal (answers_from w 1 (lines text))
-  pub last : world_after world (lines rest) ≡ world_after w (lines text)
+  pub last : world_after world number (lines rest) ≡ world_after w 1 (lines text)
 
 or_none : (a b : Bool) → (a || b) ≡ ((a || false) || b)
 or_none true b = refl
@@ -62,10 +65,10 @@ run_begins w machine text gained s =
 -- a line was run
 pub run_goes_on : (w machine next : World) (text rest line more : List ℕ) (n : ℕ) (refused r : Bool) (g g1 g2 : Option (List ℕ))
     → (so_far : RunSoFar w text rest n refused g g1 machine) → lines rest ≡ line ∷ lines more
-    → RanLines (with_answer n (step_line so_far.world line).reply []) (step_line so_far.world line).world r g1 g2 next
+    → RanLines (with_answer n (step_line so_far.world n line).reply []) (step_line so_far.world n line).world r g1 g2 next
     → RunSoFar w text more (n + 1) (refused || r) g g2 next
 run_goes_on w machine next text rest line more n refused r g g1 g2 s first ran =
-    let done = step_line s.world line in
+    let done = step_line s.world n line in
     let one = with_answer n done.reply [] in
     let later = answers_from done.world (n + 1) (lines more) in
     let split : answers_from s.world n (lines rest) ≡ with_answer n done.reply later = ap (answers_from s.world n) first in
@@ -79,20 +82,20 @@ run_goes_on w machine next text rest line more n refused r g g1 g2 s first ran =
       told = Gained-more g s.bytes g1 (report_of one) g2 s.told ran.report;
       report = append_assoc s.bytes (report_of one) (report_of later) ∙ (ap (λ (xs : List ℕ). s.bytes ++ xs) (sym told) ∙ s.report);
       refusals = sym (or_more refused r (has_refusal later)) ∙ (ap (λ b. refused || b) (sym refusals) ∙ s.refusals);
-      last = sym (ap (world_after s.world) first) ∙ s.last;
+      last = sym (ap (world_after s.world n) first) ∙ s.last;
     }
 
 -- no line is left
 pub run_ends : (w machine : World) (text rest : List ℕ) (n : ℕ) (refused : Bool) (g g1 : Option (List ℕ))
     → RunSoFar w text rest n refused g g1 machine → lines rest ≡ []
-    → RanLines (answers_from w 1 (lines text)) (world_after w (lines text)) refused g g1 machine
+    → RanLines (answers_from w 1 (lines text)) (world_after w 1 (lines text)) refused g g1 machine
 run_ends w machine text rest n refused g g1 s none =
     let report : s.bytes ≡ report_of (answers_from w 1 (lines text)) =
     sym (append_none s.bytes) ∙ (ap (λ (ls : List (List ℕ)). s.bytes ++ report_of (answers_from s.world n ls)) (sym none) ∙ s.report) in
     record {
       report = subst (λ (xs : List ℕ). Gained g xs g1) report s.told;
       refusals = sym (or_right refused) ∙ (ap (λ (ls : List (List ℕ)). refused || has_refusal (answers_from s.world n ls)) (sym none) ∙ s.refusals);
-      stands = subst (StandsFor machine) (ap (world_after s.world) (sym none) ∙ s.last) s.stands;
+      stands = subst (StandsFor machine) (ap (world_after s.world n) (sym none) ∙ s.last) s.stands;
     }
 
 -- a fault in a later part of a call is one of the call
@@ -115,10 +118,10 @@ prefix_of_part done part later k =
 -- a line was not run
 pub run_stops : (w machine : World) (text rest line more : List ℕ) (n : ℕ) (refused : Bool) (stop : Stop) (before mid now : ℕ) (g g1 g2 : Option (List ℕ))
     → (so_far : RunSoFar w text rest n refused g g1 machine) → lines rest ≡ line ∷ lines more → before ≤ mid → mid ≤ now
-    → StoppedLines (with_answer n (step_line so_far.world line).reply []) stop mid now g1 g2
+    → StoppedLines (with_answer n (step_line so_far.world n line).reply []) stop mid now g1 g2
     → StoppedLines (answers_from w 1 (lines text)) stop before now g g2
 run_stops w machine text rest line more n refused stop before mid now g g1 g2 s first a b stopped =
-    let done = step_line s.world line in
+    let done = step_line s.world n line in
     let one = with_answer n done.reply [] in
     let later = answers_from done.world (n + 1) (lines more) in
     let told : report_of (answers_from s.world n (lines rest)) ≡ report_of one ++ report_of later =
@@ -134,12 +137,20 @@ run_stops w machine text rest line more n refused stop before mid now g g1 g2 s 
     }
 
 -- the whole input was taken, and its lines were run or a line stopped the run
-pub run_of_text : (r : Result Bool Stop) (text : List ℕ) (left left' g g' : Option (List ℕ)) (f f' sf sf' : ℕ) (machine : World) → TookAll left left' text
-    → MatchResult r (λ refused. RanLines (answers regions text) (last_world regions text) refused g g' machine) (λ stop. StoppedLines (answers regions text) stop sf sf' g g')
-    → MatchResult r (λ refused. RanToEnd refused left left' g g' machine) (λ stop. Stopped stop left left' f f' g g' sf sf' machine)
-run_of_text (Ok refused) text left left' g g' f f' sf sf' machine took ran =
+pub run_of_text : (budget : ℕ) (r : Result Bool Stop) (text : List ℕ) (left left' g g' : Option (List ℕ)) (f f' sf sf' : ℕ) (machine : World) → TookAll left left' text
+    → MatchResult r (λ refused. RanLines (answers budget text) (last_world budget text) refused g g' machine) (λ stop. StoppedLines (answers budget text) stop sf sf' g g')
+    → MatchResult r (λ refused. RanToEnd budget refused left left' g g' machine) (λ stop. Stopped budget stop left left' f f' g g' sf sf' machine)
+run_of_text budget (Ok refused) text left left' g g' f f' sf sf' machine took ran =
     record { text = text; took = took; report = ran.report; refusals = sym ran.refusals; stands = ran.stands }
-run_of_text (Err Read) text left left' g g' f f' sf sf' machine took stopped = absurd stopped.cause
-run_of_text (Err Write) text left left' g g' f f' sf sf' machine took stopped = (record { text = text; took = took; report = stopped.report }, stopped.cause)
-run_of_text (Err Memory) text left left' g g' f f' sf sf' machine took stopped = tt
-run_of_text (Err TooLong) text left left' g g' f f' sf sf' machine took stopped = absurd stopped.cause
+run_of_text budget (Err Read) text left left' g g' f f' sf sf' machine took stopped = absurd stopped.cause
+run_of_text budget (Err Write) text left left' g g' f f' sf sf' machine took stopped = (record { text = text; took = took; report = stopped.report }, stopped.cause)
+run_of_text budget (Err Memory) text left left' g g' f f' sf sf' machine took stopped = tt
+run_of_text budget (Err TooLong) text left left' g g' f f' sf sf' machine took stopped = absurd stopped.cause
+
+-- the input was not taken whole, and no line was run
+pub run_of_none : (budget : ℕ) (stop : Stop) (left left' g : Option (List ℕ)) (f f' sf sf' : ℕ) (machine : World) → StandsFor machine (first_world budget 1)
+    → StoppedTaking stop left left' [] f f' → Stopped budget stop left left' f f' g g sf sf' machine
+run_of_none budget Read left left' g f f' sf sf' machine stands h = (record { took = h.0; nothing_put = refl; stands = stands }, h.1)
+run_of_none budget Write left left' g f f' sf sf' machine stands h = absurd h
+run_of_none budget Memory left left' g f f' sf sf' machine stands h = tt
+run_of_none budget TooLong left left' g f f' sf sf' machine stands h = record { took = h; nothing_put = refl; stands = stands }

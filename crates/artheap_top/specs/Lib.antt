@@ -1,6 +1,4 @@
 pub mod Ends
-pub mod Objects
 pub mod Report
 pub mod Status
-pub mod Step
-pub mod World
+pub mod Words

@@ -1,38 +1,69 @@
-ghost use Rattle.std.specs.Prelude.{◌≡◌, ℕ, ◌+◌, ◌<◌, ◌≤◌, ◌↔◌, List, [], length, ◌++◌, take, IfOk, IfSome, OnErr};
-ghost use Rattle.ah_outside.specs.Outside.{FaultRose, Gave};
+ghost use Rattle.std.specs.Prelude.{◌≡◌, [], ◌<◌, ◌≤◌, length, vec_len, IfOk, MatchResult};
+ghost use Rattle.artheap_top.specs.Ends.{StoppedTaking, TookAll, TookPiece, input_limit};
 
-use ah_outside::{Failed, Source};
+use crate::run::Stop;
+use ah_outside::Source;
+use std::alloc::{AllocError, Global};
 
-/// Takes bytes into the front of `buf` until the input ends or the buffer is full, and tells how many.
-pub(crate) fn take_all<S: Source>(source: &mut S, buf: &mut [u8]) -> Result<usize, Failed>
-    requires { 0 < length buf.old }
-    ensures within { IfOk result (λ n. n ≤ length buf.old) }
-    ensures gave { IfOk result (λ n. Gave (S.left source.old) (take n buf.new) (S.left source.new)) }
-    ensures end { IfOk result (λ n. n < length buf.old → IfSome (S.left source.new) (λ rest. rest ≡ [])) }
-    ensures failed { OnErr result ((bytes : List ℕ) × (length bytes < length buf.old) × Gave (S.left source.old) bytes (S.left source.new)) }
-    ensures cause { OnErr result (FaultRose (S.fault_count source.old) (S.fault_count source.new)) }
-    ensures never_falls { S.fault_count source.old ≤ S.fault_count source.new }
+/// The greatest length of an input, in bytes.
+const INPUT_LIMIT: usize = 268_435_456;
+
+/// How many bytes are taken at once.
+const PIECE_BYTES: usize = 4_096;
+
+/// A buffer of this many bytes.
+fn buffer(alloc: Global, bytes: usize) -> Result<Vec<u8>, AllocError>
+    ensures { IfOk result (λ buf. vec_len buf ≡ bytes) }
 {
-    let mut taken = 0;
-    while taken < buf.len() {
-        let count = take_into(source, buf, taken)?;
-        if count == 0 {
-            break;
-        }
-        taken += count;
-    }
-    Ok(taken)
+    vec![in alloc; 0; bytes]
 }
 
-/// Takes bytes behind the first `taken` ones.
-fn take_into<S: Source>(source: &mut S, buf: &mut [u8], taken: usize) -> Result<usize, Failed>
-    requires { taken < length buf.old }
-    ensures within { IfOk result (λ n. taken + n ≤ length buf.old) }
-    ensures gave { IfOk result (λ n. (bytes : List ℕ) × (take (taken + n) buf.new ≡ take taken buf.old ++ bytes) × Gave (S.left source.old) bytes (S.left source.new)) }
-    ensures end { IfOk result (λ n. IfSome (S.left source.old) (λ rest. (n ≡ 0) ↔ (rest ≡ []))) }
-    ensures failed { OnErr result (S.left source.new ≡ S.left source.old) }
-    ensures cause { OnErr result (FaultRose (S.fault_count source.old) (S.fault_count source.new)) }
+/// Takes bytes behind those of a text, and tells whether there may be more.
+fn take_piece<S: Source>(
+    source: &mut S,
+    buf: &mut [u8],
+    text: &mut Vec<u8>,
+) -> Result<bool, Stop>
+    requires room { 0 < length buf.old }
+    requires fits { length text.old.items ≤ input_limit }
+    ensures took { MatchResult result
+        (λ more. TookPiece more text.old.items text.new.items (S.left source.old) (S.left source.new))
+        (λ stop. StoppedTaking stop (S.left source.old) (S.left source.new) text.old.items (S.fault_count source.old) (S.fault_count source.new)) }
+    ensures room { length buf.new ≡ length buf.old }
     ensures never_falls { S.fault_count source.old ≤ S.fault_count source.new }
 {
-    source.take(&mut buf[taken..])
+    let Ok(count) = source.take(buf) else {
+        return Err(Stop::Read);
+    };
+    text.extend_from_slice(&buf[..count])?;
+    if text.len() > INPUT_LIMIT {
+        return Err(Stop::TooLong);
+    }
+    Ok(count > 0)
+}
+
+/// Takes the rest of the input, by pieces of the buffer's length, behind a text without bytes.
+fn take_rest<S: Source>(source: &mut S, buf: &mut [u8], text: &mut Vec<u8>) -> Result<(), Stop>
+    requires room { 0 < length buf.old }
+    requires empty { text.old.items ≡ [] }
+    ensures took { MatchResult result
+        (λ _. TookAll (S.left source.old) (S.left source.new) text.new.items)
+        (λ stop. StoppedTaking stop (S.left source.old) (S.left source.new) [] (S.fault_count source.old) (S.fault_count source.new)) }
+    ensures never_falls { S.fault_count source.old ≤ S.fault_count source.new }
+{
+    while take_piece(source, buf, text)? {}
+    Ok(())
+}
+
+/// Takes the whole input.
+pub(crate) fn take_input<S: Source>(alloc: Global, source: &mut S) -> Result<Vec<u8>, Stop>
+    ensures took { MatchResult result
+        (λ text. TookAll (S.left source.old) (S.left source.new) text.items)
+        (λ stop. StoppedTaking stop (S.left source.old) (S.left source.new) [] (S.fault_count source.old) (S.fault_count source.new)) }
+    ensures never_falls { S.fault_count source.old ≤ S.fault_count source.new }
+{
+    let mut buf = buffer(alloc, PIECE_BYTES)?;
+    let mut text = Vec::new(alloc);
+    take_rest(source, buf.as_mut_slice(), &mut text)?;
+    Ok(text)
 }

@@ -1,8 +1,9 @@
 ghost use Rattle.std.specs.Prelude.{◌≡◌, ◌+◌, ◌<◌, ◌≤◌, ◌^◌, ◌||◌, length, [], MatchResult, IfOk, OnOk, OnErr};
 ghost use Rattle.ah_outside.specs.Outside.{FaultRose, Gained, GainedPrefix};
+ghost use Rattle.heap_world.specs.World.{World};
+ghost use Rattle.plain_machine.specs.Worlds.{StandsFor};
 ghost use Rattle.script_lang.specs.Texts.{reply_line};
 ghost use Rattle.script_lang.specs.Parts.{lines};
-ghost use Rattle.artheap_top.specs.World.{World, StandsFor};
 ghost use Rattle.artheap_top.specs.Report.{step_line, answers_from, with_answer, world_after};
 ghost use Rattle.artheap_top.specs.Ends.{RanLines, StoppedLines};
 
@@ -31,6 +32,9 @@ impl From<AllocError> for Stop {
     }
 }
 
+/// The greatest length of a line, in bytes, without its line feed.
+const LINE_LIMIT: usize = 4_096;
+
 /// Reads a line and runs its command, and gives the reply, if the line has one.
 fn step_line(
     alloc: Global,
@@ -38,9 +42,12 @@ fn step_line(
     number: u64,
     line: &[u8],
 ) -> Result<Option<Reply>, AllocError>
-    ensures reply { (w : World) → StandsFor machine.old w → IfOk result (λ reply. reply ≡ (step_line w line.now).reply) }
-    ensures world { (w : World) → StandsFor machine.old w → OnOk result (StandsFor machine.new (step_line w line.now).world) }
+    ensures reply { (w : World) → StandsFor machine.old w → IfOk result (λ reply. reply ≡ (step_line w number line.now).reply) }
+    ensures world { (w : World) → StandsFor machine.old w → OnOk result (StandsFor machine.new (step_line w number line.now).world) }
 {
+    if line.len() > LINE_LIMIT {
+        return Ok(Some(Reply::Refused(Refusal::LineTooLong)));
+    }
     match read_line(alloc, line) {
         Ok(Some(command)) => Ok(Some(machine.step(number, &command)?)),
         Ok(None) => Ok(None),
@@ -70,8 +77,8 @@ fn run_line<W: Sink>(
     machine: &mut Machine,
 ) -> Result<bool, Stop>
     ensures done { (w : World) → StandsFor machine.old w → MatchResult result
-        (λ refused. RanLines (with_answer number (step_line w line.now).reply []) (step_line w line.now).world refused (W.gained sink.old) (W.gained sink.new) machine.new)
-        (λ stop. StoppedLines (with_answer number (step_line w line.now).reply []) stop (W.fault_count sink.old) (W.fault_count sink.new) (W.gained sink.old) (W.gained sink.new)) }
+        (λ refused. RanLines (with_answer number (step_line w number line.now).reply []) (step_line w number line.now).world refused (W.gained sink.old) (W.gained sink.new) machine.new)
+        (λ stop. StoppedLines (with_answer number (step_line w number line.now).reply []) stop (W.fault_count sink.old) (W.fault_count sink.new) (W.gained sink.old) (W.gained sink.new)) }
     ensures never_falls { W.fault_count sink.old ≤ W.fault_count sink.new }
 {
     match step_line(alloc, machine, number, line)? {
@@ -92,7 +99,7 @@ pub(crate) fn run_lines<W: Sink>(
 ) -> Result<bool, Stop>
     requires { length text.now < 2 ^ 63 }
     ensures done { (w : World) → StandsFor machine.old w → MatchResult result
-        (λ refused. RanLines (answers_from w 1 (lines text.now)) (world_after w (lines text.now)) refused (W.gained sink.old) (W.gained sink.new) machine.new)
+        (λ refused. RanLines (answers_from w 1 (lines text.now)) (world_after w 1 (lines text.now)) refused (W.gained sink.old) (W.gained sink.new) machine.new)
         (λ stop. StoppedLines (answers_from w 1 (lines text.now)) stop (W.fault_count sink.old) (W.fault_count sink.new) (W.gained sink.old) (W.gained sink.new)) }
     ensures never_falls { W.fault_count sink.old ≤ W.fault_count sink.new }
 {

@@ -1,83 +1,41 @@
-ghost use Rattle.std.specs.Prelude.{◌≡◌, ◌≢◌, ◌↔◌, ◌+◌, ◌≤◌, false, true, length, map, string_bytes, vec_len, IfOk, MatchResult};
+ghost use Rattle.std.specs.Prelude.{◌≡◌, ◌≢◌, ◌↔◌, ◌≤◌, ℕ, None, Some, false, true, map, string_bytes, MatchResult};
 ghost use Rattle.ah_outside.specs.Outside.{FaultRose};
-ghost use Rattle.artheap_top.specs.World.{StandsFor, empty_world, first_world};
-ghost use Rattle.artheap_top.specs.Ends.{is_run, input_limit, regions, RanToEnd, RanInPart, TookSome, TookTooMany, Stopped};
+ghost use Rattle.heap_world.specs.World.{empty_world};
+ghost use Rattle.plain_machine.specs.Worlds.{StandsFor};
+ghost use Rattle.artheap_top.specs.Ends.{RanToEnd, RanInPart, TookSome, TookTooMany, Stopped};
+ghost use Rattle.artheap_top.specs.Words.{run_regions};
 
-use crate::input::take_all;
+use crate::input::take_input;
 use crate::run::{Stop, run_lines};
+use crate::words::run_regions;
 use crate::{Machine, Status};
 use ah_outside::{Shelf, Sink, Source};
-use std::alloc::{AllocError, Global};
-
-/// The greatest length of an input, in bytes.
-const INPUT_LIMIT: usize = 65_536;
-
-/// The regions of a process.
-const REGIONS: u32 = 64;
-
-/// Whether the words name the one job so far.
-fn is_run(words: &[String]) -> bool
-    ensures { result ≡ is_run (map string_bytes words.now) }
-{
-    match words {
-        [word] => word.as_bytes() == b"run".as_slice(),
-        _ => false,
-    }
-}
-
-/// A buffer of this many bytes.
-fn buffer(alloc: Global, bytes: usize) -> Result<Vec<u8>, AllocError>
-    ensures { IfOk result (λ buf. vec_len buf ≡ bytes) }
-{
-    vec![in alloc; 0; bytes]
-}
-
-/// Takes the whole input into `buf`, runs its lines, and tells whether one was refused.
-fn run_in<S: Source, W: Sink>(
-    alloc: Global,
-    buf: &mut [u8],
-    source: &mut S,
-    sink: &mut W,
-    machine: &mut Machine,
-) -> Result<bool, Stop>
-    requires room { length buf.old ≡ input_limit + 1 }
-    requires prepared { StandsFor machine.old (first_world regions 1) }
-    ensures ends { MatchResult result
-        (λ refused. RanToEnd refused (S.left source.old) (S.left source.new) (W.gained sink.old) (W.gained sink.new) machine.new)
-        (λ stop. Stopped stop (S.left source.old) (S.left source.new) (S.fault_count source.old) (S.fault_count source.new) (W.gained sink.old) (W.gained sink.new) (W.fault_count sink.old) (W.fault_count sink.new) machine.new) }
-    ensures source_faults { S.fault_count source.old ≤ S.fault_count source.new }
-    ensures sink_faults { W.fault_count sink.old ≤ W.fault_count sink.new }
-{
-    let Ok(taken) = take_all(source, buf) else {
-        return Err(Stop::Read);
-    };
-    if taken > INPUT_LIMIT {
-        return Err(Stop::TooLong);
-    }
-    run_lines(alloc, &buf[..taken], sink, machine)
-}
+use std::alloc::Global;
 
 /// Runs a script from the source on a new machine, and tells whether a line was refused.
 fn run<S: Source, W: Sink>(
     alloc: Global,
+    regions: u32,
     source: &mut S,
     sink: &mut W,
     machine: &mut Machine,
 ) -> Result<bool, Stop>
-    requires { StandsFor machine.old empty_world }
+    requires is_new { StandsFor machine.old empty_world }
+    requires few_regions { (1 ≤ regions) × (regions ≤ 512) }
     ensures ends { MatchResult result
-        (λ refused. RanToEnd refused (S.left source.old) (S.left source.new) (W.gained sink.old) (W.gained sink.new) machine.new)
-        (λ stop. Stopped stop (S.left source.old) (S.left source.new) (S.fault_count source.old) (S.fault_count source.new) (W.gained sink.old) (W.gained sink.new) (W.fault_count sink.old) (W.fault_count sink.new) machine.new) }
+        (λ refused. RanToEnd regions refused (S.left source.old) (S.left source.new) (W.gained sink.old) (W.gained sink.new) machine.new)
+        (λ stop. Stopped regions stop (S.left source.old) (S.left source.new) (S.fault_count source.old) (S.fault_count source.new) (W.gained sink.old) (W.gained sink.new) (W.fault_count sink.old) (W.fault_count sink.new) machine.new) }
     ensures source_faults { S.fault_count source.old ≤ S.fault_count source.new }
     ensures sink_faults { W.fault_count sink.old ≤ W.fault_count sink.new }
 {
-    machine.prepare(REGIONS, 1)?;
-    let mut buf = buffer(alloc, INPUT_LIMIT + 1)?;
-    run_in(alloc, buf.as_mut_slice(), source, sink, machine)
+    machine.prepare(regions, 1)?;
+    let text = take_input(alloc, source)?;
+    run_lines(alloc, &text, sink, machine)
 }
 
-/// Does the job that the words name. The words are those after the program's name; the one job so far is `run`,
-/// which runs a script of at most 65,536 bytes from the source and puts its report to the sink.
+/// Does the job that the words name. The words are those after the program's name; the one job so far is
+/// `run [--regions N]`, which runs a script of at most 268,435,456 bytes from the source and puts its report to the
+/// sink. N is the budget of each process in regions, 1 to 512, and 64 if it isn't given.
 ///
 /// The machine is new, and at the end of a run stands for the world that the script made.
 pub fn artheap<S: Source, W: Sink, F: Shelf>(
@@ -92,19 +50,19 @@ pub fn artheap<S: Source, W: Sink, F: Shelf>(
     requires no_entry { (F.shelved shelf.old).unfinished ≡ false }
 
     // The whole input was read, and its whole report was put.
-    ensures ok { result ≡ Status.Ok → RanToEnd false (S.left source.old) (S.left source.new) (W.gained sink.old) (W.gained sink.new) machine.new }
-    ensures refused { result ≡ Status.Refused → RanToEnd true (S.left source.old) (S.left source.new) (W.gained sink.old) (W.gained sink.new) machine.new }
+    ensures ok { (regions : ℕ) → run_regions (map string_bytes words.now) ≡ Some regions → result ≡ Status.Ok → RanToEnd regions false (S.left source.old) (S.left source.new) (W.gained sink.old) (W.gained sink.new) machine.new }
+    ensures refused { (regions : ℕ) → run_regions (map string_bytes words.now) ≡ Some regions → result ≡ Status.Refused → RanToEnd regions true (S.left source.old) (S.left source.new) (W.gained sink.old) (W.gained sink.new) machine.new }
 
     // The words have no form, and nothing was done.
-    ensures usage { (result ≡ Status.Usage) ↔ (is_run (map string_bytes words.now) ≡ false) }
+    ensures usage { (result ≡ Status.Usage) ↔ (run_regions (map string_bytes words.now) ≡ None) }
     ensures unused { result ≡ Status.Usage → (source.new ≡ source.old) × (sink.new ≡ sink.old) × (machine.new ≡ machine.old) }
 
     // The source or the sink failed in this call.
-    ensures read_fault { result ≡ Status.ReadFault → TookSome (S.left source.old) (S.left source.new) (W.gained sink.old) (W.gained sink.new) machine.new × FaultRose (S.fault_count source.old) (S.fault_count source.new) }
-    ensures write_fault { result ≡ Status.WriteFault → RanInPart (S.left source.old) (S.left source.new) (W.gained sink.old) (W.gained sink.new) × FaultRose (W.fault_count sink.old) (W.fault_count sink.new) }
+    ensures read_fault { (regions : ℕ) → run_regions (map string_bytes words.now) ≡ Some regions → result ≡ Status.ReadFault → TookSome regions (S.left source.old) (S.left source.new) (W.gained sink.old) (W.gained sink.new) machine.new × FaultRose (S.fault_count source.old) (S.fault_count source.new) }
+    ensures write_fault { (regions : ℕ) → run_regions (map string_bytes words.now) ≡ Some regions → result ≡ Status.WriteFault → RanInPart regions (S.left source.old) (S.left source.new) (W.gained sink.old) (W.gained sink.new) × FaultRose (W.fault_count sink.old) (W.fault_count sink.new) }
 
     // More bytes were taken than are allowed.
-    ensures too_long { result ≡ Status.TooLong → TookTooMany (S.left source.old) (S.left source.new) (W.gained sink.old) (W.gained sink.new) machine.new }
+    ensures too_long { (regions : ℕ) → run_regions (map string_bytes words.now) ≡ Some regions → result ≡ Status.TooLong → TookTooMany regions (S.left source.old) (S.left source.new) (W.gained sink.old) (W.gained sink.new) machine.new }
 
     // No count of faults falls.
     ensures source_faults { S.fault_count source.old ≤ S.fault_count source.new }
@@ -116,10 +74,10 @@ pub fn artheap<S: Source, W: Sink, F: Shelf>(
     ensures shelf { shelf.new ≡ shelf.old }
 {
     let _ = &shelf;
-    if !is_run(words) {
+    let Some(regions) = run_regions(words) else {
         return Status::Usage;
-    }
-    match run(alloc, source, sink, machine) {
+    };
+    match run(alloc, regions, source, sink, machine) {
         Ok(false) => Status::Ok,
         Ok(true) => Status::Refused,
         Err(Stop::Read) => Status::ReadFault,

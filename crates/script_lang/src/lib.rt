@@ -11,6 +11,7 @@ mod verbs;
 mod words;
 
 pub use heap_world::{Command, FieldList, Refusal, Reply, Verb};
+pub use numbers::count as read_count;
 pub use parts::split_line;
 pub use read::{LineError, read_line};
 pub use text::reply_text;

@@ -32,8 +32,8 @@ fn unsigned(word: &[u8]) -> Option<u64>
     }
 }
 
-/// The length or the index that the word is.
-pub(crate) fn count(word: &[u8]) -> Option<u32>
+/// The length or the index that the word is: decimal digits without a sign or a leading zero, at most 4,294,967,295.
+pub fn count(word: &[u8]) -> Option<u32>
     ensures { result ≡ count_of word.now }
 {
     u32::try_from(unsigned(word)?).ok()

@@ -1,5 +1,6 @@
 use Rattle.std.proofs.Common.{◌+◌, ◌≤◌, length}
-use Rattle.artheap_top.specs.World.{World, StandsFor}
+use Rattle.heap_world.specs.World.{World}
+use Rattle.plain_machine.specs.Worlds.{StandsFor}
 use Rattle.artheap_top.proofs.RunLemmas.{RunSoFar}
 use Rattle.artheap_top.proofs.run.run_lines.Given as goal
 
