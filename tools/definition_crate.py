@@ -34,7 +34,7 @@ fn script_{seed}()
 {{}}
 """
 
-# the proofs: both sides compute to the same
+# both sides compute to the same
 PROOF = """\
 use Rattle.std.specs.Prelude.{{refl}}
 use Rattle.{crate}.proofs.script_{seed}.Goals as goal
@@ -54,70 +54,62 @@ def written(text, *path):
         file.write(text)
 
 
-class Repository:
-    """A repository in a folder, with the libraries of this one."""
-
-    def __init__(self, folder):
-        self.folder = os.path.abspath(folder)
-        self.crates = dict(LIBRARIES)
-        for name in LIBRARIES:
-            self.copy(name)
-
-    def copy(self, name):
-        """A library as it stands here."""
-        to = os.path.join(self.folder, "crates", name)
-        for part in ("src", "specs", "proofs"):
-            shutil.rmtree(os.path.join(to, part), ignore_errors=True)
-            shutil.copytree(os.path.join(TOP, "crates", name, part), os.path.join(to, part))
-
-    def add(self, name, scripts):
-        """A crate that claims what the scripts tell."""
-        crate = os.path.join(self.folder, "crates", name)
-        shutil.rmtree(crate, ignore_errors=True)
-        seeds = [script.seed for script in scripts]
-        modules = "".join(f"pub mod {module}\n" for module in ["Traces"] + [f"Script{seed}" for seed in seeds])
-        written(modules, crate, "specs", "Lib.antt")
-        written(definition_text.TRACES, crate, "specs", "Traces.antt")
-        for script in scripts:
-            written(definition_text.script_text(name, script), crate, "specs", f"Script{script.seed}.antt")
-            proof = PROOF.format(crate=name, seed=script.seed)
-            written(proof, crate, "proofs", f"script_{script.seed}", "Answers.antt")
-        functions = (FUNCTION.format(seed=x.seed, budget=x.budget, first=x.first) for x in scripts)
-        uses = (USE.format(crate=name, seed=seed) for seed in seeds)
-        written(LIB_HEAD.replace("CRATE", name) + "".join((*uses, *functions)), crate, "src", "lib.rt")
-        self.crates[name] = " ".join(LIBRARIES)
-        self.list_crates()
-
-    def remove(self, name):
-        shutil.rmtree(os.path.join(self.folder, "crates", name))
-        del self.crates[name]
-        self.list_crates()
-
-    def list_crates(self):
-        written("".join(f"{name}: {below}\n" for name, below in self.crates.items()), self.folder, "crates.txt")
-
-    def check(self, name):
-        """`rt check` in a crate's folder."""
-        began = time.monotonic()
-        crate = os.path.join(self.folder, "crates", name)
-        with tempfile.TemporaryFile("w+", encoding="utf-8") as log:
-            process = subprocess.Popen(["rt", "check"], cwd=crate, stdout=log, stderr=subprocess.STDOUT)
-            _, status, usage = os.wait4(process.pid, 0)
-            process.returncode = os.waitstatus_to_exitcode(status)
-            log.seek(0)
-            message = log.read()
-        return Checked(message, time.monotonic() - began, usage.ru_maxrss // 1024)
+def checked_in(crate):
+    """`rt check` in a crate's folder."""
+    began = time.monotonic()
+    with tempfile.TemporaryFile("w+", encoding="utf-8") as log:
+        process = subprocess.Popen(["rt", "check"], cwd=crate, stdout=log, stderr=subprocess.STDOUT)
+        _, status, usage = os.wait4(process.pid, 0)
+        process.returncode = os.waitstatus_to_exitcode(status)
+        log.seek(0)
+        return Checked(log.read(), time.monotonic() - began, usage.ru_maxrss // 1024)
 
 
 def is_proved(checked, seed):
     return re.search(rf"^fn \w+::script_{seed}: proved$", checked.message, re.MULTILINE) is not None
 
 
-def reason(checked, seed):
-    """Where the two sides of a script that isn't proved differ, as the check says it; else the end of its message."""
-    found = re.findall(rf"^\./proofs/script_{seed}/.*\n(?:  .*\n)*", checked.message, re.MULTILINE)
-    told = [line for part in found for line in part.splitlines() if "computed as far" in line or line.startswith("  (exp")]
-    return "\n".join(told) or checked.message[-2000:]
+def errors(checked, seed):
+    """What the check says of the proof of a script."""
+    return re.findall(rf"^\./proofs/script_{seed}/.*\n(?:  .*\n)*", checked.message, re.MULTILINE)
+
+
+def differences(checked, seed):
+    """Where the two sides of a script differ, as the check says it; nothing where it stopped before it came so far."""
+    form = r"computed as far as they go, the two types (.*\n(?:  \(.*\n)?)"
+    ends = [re.search(form, error) for error in errors(checked, seed)]
+    return [" ".join(end[1].split()) for end in ends if end]
+
+
+def stop(checked, seed):
+    """What stopped the check of a script: the head of its first error, or else the end of all that the check said."""
+    found = errors(checked, seed)
+    return found[0].splitlines()[0] if found else checked.message[-1000:]
+
+
+def copy_library(name, crates):
+    """A library of this repository as it stands, without what checks kept."""
+    for part in ("src", "specs", "proofs"):
+        to = os.path.join(crates, name, part)
+        shutil.rmtree(to, ignore_errors=True)
+        shutil.copytree(os.path.join(TOP, "crates", name, part), to)
+
+
+def write_script(crate, name, script):
+    text = definition_text.script_text(name, script)
+    written(text, crate, "specs", f"Script{script.seed}.antt")
+    proof = PROOF.format(crate=name, seed=script.seed)
+    written(proof, crate, "proofs", f"script_{script.seed}", "Answers.antt")
+
+
+def write_library(crate, name, scripts):
+    """The files of a crate that name its scripts."""
+    modules = ["Traces"] + [f"Script{script.seed}" for script in scripts]
+    written("".join(f"pub mod {module}\n" for module in modules), crate, "specs", "Lib.antt")
+    written(definition_text.TRACES, crate, "specs", "Traces.antt")
+    uses = [USE.format(crate=name, seed=script.seed) for script in scripts]
+    functions = [FUNCTION.format(seed=x.seed, budget=x.budget, first=x.first) for x in scripts]
+    written(LIB_HEAD.replace("CRATE", name) + "".join(uses + functions), crate, "src", "lib.rt")
 
 
 class Repository:
@@ -125,61 +117,18 @@ class Repository:
 
     def __init__(self, folder):
         self.folder = os.path.abspath(folder)
-        self.crates = dict(LIBRARIES)
+        self.listed = dict(LIBRARIES)
         for name in LIBRARIES:
-            self.copy(name)
+            copy_library(name, os.path.join(self.folder, "crates"))
 
-    def copy(self, name):
-        """A library as it stands here."""
-        to = os.path.join(self.folder, "crates", name)
-        for part in ("src", "specs", "proofs"):
-            shutil.rmtree(os.path.join(to, part), ignore_errors=True)
-            shutil.copytree(os.path.join(TOP, "crates", name, part), os.path.join(to, part))
-
-    def add(self, name, scripts):
-        """A crate that claims what the scripts tell."""
+    def check(self, name, scripts):
+        """Writes a crate that claims what the scripts tell, in place of one of that name, and checks it."""
         crate = os.path.join(self.folder, "crates", name)
         shutil.rmtree(crate, ignore_errors=True)
-        seeds = [script.seed for script in scripts]
-        modules = "".join(f"pub mod {module}\n" for module in ["Traces"] + [f"Script{seed}" for seed in seeds])
-        written(modules, crate, "specs", "Lib.antt")
-        written(definition_text.TRACES, crate, "specs", "Traces.antt")
         for script in scripts:
-            written(definition_text.script_text(name, script), crate, "specs", f"Script{script.seed}.antt")
-            proof = PROOF.format(crate=name, seed=script.seed)
-            written(proof, crate, "proofs", f"script_{script.seed}", "Answers.antt")
-        functions = (FUNCTION.format(seed=x.seed, budget=x.budget, first=x.first) for x in scripts)
-        uses = (USE.format(crate=name, seed=seed) for seed in seeds)
-        written(LIB_HEAD.replace("CRATE", name) + "".join((*uses, *functions)), crate, "src", "lib.rt")
-        self.crates[name] = " ".join(LIBRARIES)
-        self.list_crates()
-
-    def remove(self, name):
-        shutil.rmtree(os.path.join(self.folder, "crates", name))
-        del self.crates[name]
-        self.list_crates()
-
-    def list_crates(self):
-        written("".join(f"{name}: {below}\n" for name, below in self.crates.items()), self.folder, "crates.txt")
-
-    def check(self, name):
-        """`rt check` in a crate's folder."""
-        began = time.monotonic()
-        crate = os.path.join(self.folder, "crates", name)
-        with tempfile.TemporaryFile("w+", encoding="utf-8") as log:
-            process = subprocess.Popen(["rt", "check"], cwd=crate, stdout=log, stderr=subprocess.STDOUT)
-            _, status, usage = os.wait4(process.pid, 0)
-            process.returncode = os.waitstatus_to_exitcode(status)
-            log.seek(0)
-            message = log.read()
-        return Checked(message, time.monotonic() - began, usage.ru_maxrss // 1024)
-
-
-def is_proved(checked, seed):
-    return re.search(rf"^fn \w+::script_{seed}: proved$", checked.message, re.MULTILINE) is not None
-
-
-def reason(checked, seed):
-    """What the check says of a script that isn't proved, or the end of all that it says."""
-    found = re.search(rf"^fn \w+::script_{seed}: (.*)$", checked.message, re.MULTILINE)
-    return found[1] if found else checked.message[-2000:]
+            write_script(crate, name, script)
+        write_library(crate, name, scripts)
+        self.listed[name] = " ".join(LIBRARIES)
+        listed = "".join(f"{name}: {below}\n" for name, below in self.listed.items())
+        written(listed, self.folder, "crates.txt")
+        return checked_in(crate)

@@ -20,9 +20,10 @@ VERBS = {
 
 # the forms of replies but for refusals, and the variant of each; the groups are its words
 REPLIES = tuple((re.compile(form), variant) for form, variant in (
-    (r"ok", "Done"), (r"null", "Null"), (r"class (\d+)", "Class"), (r"(-?\d+)", "Number"), (r"#(\d+) gc", "Made"),
-    (r"#(\d+) (\S+)", "Shown"), (r"#(\d+)", "Object"), (r"kept (\d+) freed (\d+)", "Kept"), (r"regions (\d+)", "Regions"),
-    (r"image (\d+) (\d+) zygote (\d+) (\d+) large (\d+) (\d+)", "Pages"), (r"frames (\d+)", "Frames"),
+    (r"ok", "Done"), (r"null", "Null"), (r"class (\d+)", "Class"), (r"(-?\d+)", "Number"),
+    (r"#(\d+) (\S+)", "Shown"), (r"#(\d+)", "Object"), (r"kept (\d+) freed (\d+)", "Kept"),
+    (r"regions (\d+)", "Regions"), (r"frames (\d+)", "Frames"),
+    (r"image (\d+) (\d+) zygote (\d+) (\d+) large (\d+) (\d+)", "Pages"),
 ))
 
 SCRIPT_HEAD = """\
@@ -111,6 +112,11 @@ def verb_text(verb, words):
     return applied(f"verb.{variant}", [FORMS[form](word) for form, word in zip(forms, words, strict=True)])
 
 
+def line_text(line):
+    process, verb, *words = line.command
+    return f"line {line.number} {name_text(process)} {verb_text(verb, words)}"
+
+
 def refusal_text(reply):
     """A refusal, with its numbers where it has two."""
     number = re.match(r"E(\d+) ", reply)[1]
@@ -119,13 +125,11 @@ def refusal_text(reply):
 
 
 def variant_of(reply, verb):
-    """The variant of a reply that is no refusal, and the reply's words."""
-    for form, variant in REPLIES:
-        found = form.fullmatch(reply)
-        if found:
-            made = variant == "Object" and verb in ("new", "array", "weak")
-            return "Made" if made else variant, found.groups()
-    raise ValueError(f"no reply: {reply}")
+    """The variant of a reply that is no refusal, and the reply's words. A class may have the name gc."""
+    variant, words = next((variant, found.groups()) for form, variant in REPLIES if (found := form.fullmatch(reply)))
+    if variant in ("Object", "Shown") and verb in ("new", "array", "weak"):
+        variant = "Made"
+    return variant, words
 
 
 def reply_text(reply, verb):
@@ -145,7 +149,8 @@ def kind_of_reply(reply, verb):
     """A word for the reply's kind: a variant, with `gc` where a collection went before, or the number of a refusal."""
     if reply.startswith("E"):
         return reply.split(" ")[0]
-    return variant_of(reply, verb)[0] + " gc" * reply.endswith(" gc")
+    variant = variant_of(reply, verb)[0]
+    return "Made gc" if variant == "Made" and reply.endswith(" gc") else variant
 
 
 def list_text(name, kind, items):
@@ -155,9 +160,9 @@ def list_text(name, kind, items):
 
 def script_text(crate, script):
     """The definitions of a script: its lines, the answers, and the traces."""
-    process_lines = [f"line {x.number} {name_text(x.command[0])} {verb_text(x.command[1], x.command[2:])}" for x in script.lines]
-    answers = [f"answer {x.number} {reply_text(x.reply, x.command[1])}" for x in script.lines]
-    traces = [f"trace {x.allowed} {x.touched} {x.noted}" for x in script.lines]
-    parts = (SCRIPT_HEAD.replace("CRATE", crate), list_text("lines", "Line", process_lines),
+    lines = map(line_text, script.lines)
+    answers = (f"answer {line.number} {reply_text(line.reply, line.command[1])}" for line in script.lines)
+    traces = (f"trace {line.allowed} {line.touched} {line.noted}" for line in script.lines)
+    parts = (SCRIPT_HEAD.replace("CRATE", crate), list_text("lines", "Line", lines),
              list_text("told", "Answer", answers), list_text("traced", "Trace", traces))
     return "\n".join(parts)

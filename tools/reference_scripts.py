@@ -11,6 +11,9 @@ PROFILES = ("mixed", "gcpressure", "forks", "grammar", "weak", "large")
 # how many fields a script's classes may declare: all their names are compared, which costs gigabytes for some more
 FIELDS = 400
 
+# how many frames a line may count, since their pages are compared with each other
+FRAMES = 2000
+
 # a command, the number of its line, and what the reference told: the reply, the reads that the line allows, and the
 # process's touched pages and noted cards after the line, 0 where no live process has the name
 Line = namedtuple("Line", "number command reply allowed touched noted")
@@ -27,6 +30,11 @@ def affordable(commands):
         if declared <= left:
             left -= declared
             yield number, command
+
+
+def is_counted(line):
+    """Whether a line isn't one that counts too many frames. It changes nothing, so it can be left out."""
+    return not line.reply.startswith("frames ") or int(line.reply.split(" ")[1]) <= FRAMES
 
 
 class Reference:
@@ -65,7 +73,8 @@ class Reference:
     def answered(self, script, commands):
         """The script of these commands, pairs of a line's number and a command."""
         world = self.worlds.World(script.budget, script.first)
-        return script._replace(lines=[self.step(world, number, command) for number, command in commands])
+        lines = [self.step(world, number, command) for number, command in commands]
+        return script._replace(lines=[line for line in lines if is_counted(line)])
 
     def with_lines(self, script, lines):
         """A script of some of its lines. They are answered anew."""
