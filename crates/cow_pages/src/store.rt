@@ -2,7 +2,7 @@
 ghost use Rattle.std.specs.Prelude.{◌≡◌, ◌≢◌, ◌⊎◌, ◌+◌, ◌-◌, ◌<◌, ◌≤◌, ℕ, [], length, IsOk, IfOk, OnOk, OnErr, Some, None, true, false, IsTrue, slice_index_or};
 ghost use Rattle.cow_pages.specs.Address.{page_of, offset_of, is_in_window};
 ghost use Rattle.cow_pages.specs.Memory.{is_live, is_mapped, page_at, frame_at, IsSettled, HasOneSharer, IsShared};
-ghost use Rattle.cow_pages.specs.Change.{ChangesPage, ChangesTable, FreesFrames, KeepsRoom, MapsZeros, TakesFrame, TakesOnCopy, WritesPage, patched, reads_after, settled, written_page};
+ghost use Rattle.cow_pages.specs.Change.{ChangesPage, ChangesTable, FreesFrames, KeepsRoom, MapsZeros, TakesFrame, TakesOnCopy, TakesOne, WritesPage, patched, reads_after, settled, written_page};
 ghost use Rattle.cow_pages.specs.Place.{page_number};
 ghost use Rattle.cow_pages.specs.Pool.{bytes_of, sharers_of};
 ghost use Rattle.cow_pages.specs.Tables.{entries_of, entry_at, AddsTable, AreCounted, IsCounted, SameTables, SetsEntry};
@@ -88,6 +88,7 @@ impl Store {
         ensures zeros { OnOk result (MapsZeros (shown self.old) (shown self.new) t.0 page.0) }
         ensures rest { OnOk result (ChangesPage (shown self.old) (shown self.new) t.0 page.0) }
         ensures takes { OnOk result (TakesFrame (shown self.old) (shown self.new)) }
+        ensures one { OnOk result (TakesOne (shown self.old) (shown self.new)) }
         ensures succeeds { self.old.pool.spare ≢ 0 → IsOk result }
         ensures err { OnErr result (shown self.new ≡ shown self.old) }
     {
@@ -328,6 +329,7 @@ impl Store {
         ensures unmapped { page_at (shown self.new) t.0 page.0 ≡ None }
         ensures rest { ChangesPage (shown self.old) (shown self.new) t.0 page.0 }
         ensures room { FreesFrames (shown self.old) (shown self.new) }
+        ensures freed { HasOneSharer (shown self.old) t.0 page.0 → self.new.pool.spare ≡ self.old.pool.spare + 1 }
     {
         let Some(place) = place_of(page) else {
             unreachable!()

@@ -8,7 +8,7 @@ use Rattle.cow_pages.specs.Store.{page_of_entry, shown}
 use Rattle.cow_pages.proofs.PlaceLemmas.{place_found}
 use Rattle.cow_pages.proofs.ReadLemmas.{mapped_live, not_mapped, page_at-place, page_at-none}
 use Rattle.cow_pages.proofs.ChangeLemmas.{written-by, TakesOnCopy-more}
-use Rattle.cow_pages.proofs.RoomLemmas.{on_err}
+use Rattle.cow_pages.proofs.RoomLemmas.{on_err, used-kept}
 use Rattle.cow_pages.proofs.store.Store.write.Goals as goal
 
 pub unreachable-requires : goal.unreachable-requires
@@ -35,6 +35,11 @@ own-requires-clause-place c =
     let found : place_of (page_of c.args.at.0) ≡ Some c.in-Some.place = sym (c.place_of.ensures ∙ ap place_of c.page.ensures) ∙ c.in-Some.is in
     (place_found (page_of c.args.at.0) c.in-Some.place found).1
 
+pub put-requires-clause-place : goal.put-requires-clause-place
+put-requires-clause-place c =
+    let found : place_of (page_of c.args.at.0) ≡ Some c.in-Some.place = sym (c.place_of.ensures ∙ ap place_of c.page.ensures) ∙ c.in-Some.is in
+    (place_found (page_of c.args.at.0) c.in-Some.place found).1
+
 pub returns-clause-page : goal.returns-clause-page
 returns-clause-page c =
     let found : place_of (page_of c.args.at.0) ≡ Some c.in-Some.place = sym (c.place_of.ensures ∙ ap place_of c.page.ensures) ∙ c.in-Some.is in
@@ -47,7 +52,7 @@ returns-clause-takes c =
     let found : place_of (page_of c.args.at.0) ≡ Some c.in-Some.place = sym (c.place_of.ensures ∙ ap place_of c.page.ensures) ∙ c.in-Some.is in
     let number = (place_found (page_of c.args.at.0) c.in-Some.place found).0 in
     subst (λ p. TakesOnCopy (shown c.args.self.now) (shown c.put.new.self) c.args.t.0 p) number
-    (TakesOnCopy-more _ _ _ _ _ c.in_ok-own.ensures.takes c.put.ensures.room)
+    (TakesOnCopy-more _ _ _ _ _ c.in_ok-own.ensures.takes c.put.ensures.room (used-kept c.own.new.self c.put.new.self c.own.ensures.kept c.put.ensures.kept c.put.ensures.room))
 
 pub returns-clause-succeeds : goal.returns-clause-succeeds
 returns-clause-succeeds c = λ either. refl
