@@ -1,20 +1,15 @@
 -- What holds of every memory that is sound, in other words.
-use Rattle.std.proofs.Common.{◌≡◌, ◌≢◌, ℕ, zero, suc, ◌+◌, ◌*◌, ◌^◌, ◌<◌, ◌≤◌, Bool, true, false, cond, List, [], ◌∷◌, ◌++◌, map, length, get_or, Some, None, Option, is_some, IsTrue, count_by, refl, sym, ap, subst, ◌∙◌, inl, inr, arith, eqb, ltb, leb, ◌&&◌, ◌||◌, Contains, add-zero, zero-add, true≢false}
-use Rattle.std.specs.Prelude.{option_map, All, slice_index, nat_eq}
-use Rattle.std.specs.Int.{w16, w32, w64, to_le_bytes, from_le_bytes, byte_worth}
-use Rattle.std.specs.List.{list_any, IsDistinct, AllByRecursion}
+use Rattle.std.proofs.Common.{◌≡◌, ◌≢◌, ℕ, zero, suc, ◌+◌, ◌<◌, ◌≤◌, Bool, true, false, cond, List, [], ◌∷◌, map, length, get_or, Some, None, Option, is_some, count_by, refl, sym, ap, ◌∙◌, inl, inr, arith, eqb, ltb, ◌&&◌, true≢false}
 use Rattle.std.proofs.Math.Bool.{and-true}
 use Rattle.std.proofs.lemmas.Nat.{le_bytes_2, le_bytes_4, le_bytes_8}
 use Rattle.std.proofs.lemmas.List.{get_or_past}
 use Rattle.std.proofs.lemmas.Bool.{cases_eq, cases_lt, eq-eqb, ne_eqb, cond-true, cond-false, le-leb, lt-leb, le-ltb, lt-ltb, leb-true, and_from}
-use Rattle.std.proofs.lemmas.Option.{none-some, same_Some}
 use Rattle.cow_pages.specs.declared.address.Window.{Window}
-use Rattle.cow_pages.specs.Address.{page_of, offset_of, is_in, first_page, page_count, is_in_window}
-use Rattle.cow_pages.specs.Memory.{Memory, Page, Table, page_in, pages_of, page_at, frame_at, frames_of, table_of, is_mapped, is_written, flag_of, mapped_in, written_in, used_frames, distinct_count, RisesFrom, IsSound}
+use Rattle.cow_pages.specs.Address.{page_of, offset_of, is_in, first_page, page_count}
+use Rattle.cow_pages.specs.Memory.{Memory, Page, Table, page_in, page_at, table_of, is_mapped, flag_of, RisesFrom, IsSound}
 use Rattle.cow_pages.specs.View.{View, view_of, byte_at, byte_in, numbers_from, bytes_at, u16_at, u32_at, u64_at}
-use Rattle.cow_pages.specs.Pool.{holders}
-use Rattle.cow_pages.specs.Laws.{IsPaged, HasNumbers, CountsPages, AreUsed, HasEntry, pages_in}
-use Rattle.cow_pages.proofs.SoundLemmas.{count-step, holders-yes, holders-no, holders-append}
+use Rattle.cow_pages.specs.Laws.{IsPaged, HasNumbers, CountsPages, pages_in}
+use Rattle.cow_pages.proofs.SoundLemmas.{count-step}
 
 -- bytes of a page
 
@@ -117,16 +112,16 @@ count-pages T w ((q, page) ∷ rest) k none rises =
           let head : ◌≡◌ {A = ℕ} (cond (is_in w q && T (Some page)) 1 0) 0 = ap (λ (b : Bool). cond (b && T (Some page)) 1 0) off in
           omega (arith, step, later, head, count-same f g (first_page w) (page_count w) (λ p above lower. same p (λ equal. omega arith)))
       | inr above ↦ elim (cases_lt q (first_page w + page_count w)) [
-          | inl below ↦
-              let on : is_in w q ≡ true = and_from _ _ (le-leb (first_page w) q above) (lt-ltb q _ below) in
-              let head : ◌≡◌ {A = ℕ} (cond (is_in w q && T (Some page)) 1 0) (cond (g q) 1 0) =
-              ap (λ (b : Bool). cond (b && T (Some page)) 1 0) on ∙ sym (ap (λ (b : Bool). cond b 1 0) here) in
-              omega (arith, step, later, head, count-joined f g q (first_page w) (page_count w) same before above below)
-          | inr past ↦
-              let off : is_in w q ≡ false = ap (λ (b : Bool). b && ltb q (first_page w + page_count w)) (le-leb (first_page w) q above) ∙ le-ltb q _ past in
-              let head : ◌≡◌ {A = ℕ} (cond (is_in w q && T (Some page)) 1 0) 0 = ap (λ (b : Bool). cond (b && T (Some page)) 1 0) off in
-              omega (arith, step, later, head, count-same f g (first_page w) (page_count w) (λ p higher lower. same p (λ equal. omega arith)))
-        ]
+        | inl below ↦
+            let on : is_in w q ≡ true = and_from _ _ (le-leb (first_page w) q above) (lt-ltb q _ below) in
+            let head : ◌≡◌ {A = ℕ} (cond (is_in w q && T (Some page)) 1 0) (cond (g q) 1 0) =
+            ap (λ (b : Bool). cond (b && T (Some page)) 1 0) on ∙ sym (ap (λ (b : Bool). cond b 1 0) here) in
+            omega (arith, step, later, head, count-joined f g q (first_page w) (page_count w) same before above below)
+        | inr past ↦
+            let off : is_in w q ≡ false = ap (λ (b : Bool). b && ltb q (first_page w + page_count w)) (le-leb (first_page w) q above) ∙ le-ltb q _ past in
+            let head : ◌≡◌ {A = ℕ} (cond (is_in w q && T (Some page)) 1 0) 0 = ap (λ (b : Bool). cond (b && T (Some page)) 1 0) off in
+            omega (arith, step, later, head, count-same f g (first_page w) (page_count w) (λ p higher lower. same p (λ equal. omega arith)))
+      ]
     ]
 
 pub counts : (m : Memory) (t : ℕ) (w : Window) → IsSound m → CountsPages m t w

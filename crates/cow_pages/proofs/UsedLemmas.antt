@@ -1,13 +1,12 @@
 -- How many frames have an entry.
-use Rattle.std.proofs.Common.{◌≡◌, ◌≢◌, ℕ, zero, suc, ◌+◌, ◌<◌, ◌≤◌, Bool, true, false, cond, List, [], ◌∷◌, ◌++◌, map, length, get_or, Some, None, Option, count_by, refl, sym, ap, subst, ◌∙◌, inl, inr, arith, eqb, ◌||◌, Contains, add-zero, zero-add, true≢false}
-use Rattle.std.specs.Prelude.{option_map, slice_index_or, nat_eq}
+use Rattle.std.proofs.Common.{◌≡◌, ℕ, zero, suc, ◌+◌, ◌<◌, ◌≤◌, Bool, false, cond, List, [], ◌∷◌, map, length, get_or, Some, None, Option, refl, sym, ap, subst, ◌∙◌, inl, inr, arith, eqb, ◌||◌, Contains}
+use Rattle.std.specs.Prelude.{option_map, nat_eq}
 use Rattle.std.specs.List.{list_any, IsDistinct, AllByRecursion}
-use Rattle.std.proofs.lemmas.Bool.{cases_eq, cases_lt, eq-eqb, eqb-false, ne_eqb, cond-true, cond-false, leb-true}
+use Rattle.std.proofs.lemmas.Bool.{cases_eq, cases_lt, eq-eqb, eqb-false, ne_eqb, cond-true, cond-false}
 use Rattle.std.proofs.lemmas.Option.{none-some, same_Some}
-use Rattle.cow_pages.specs.Memory.{Memory, Page, Table, page_in, pages_of, page_at, frame_at, frames_of, table_of, used_frames, distinct_count, RisesFrom, IsSound}
-use Rattle.cow_pages.specs.View.{numbers_from}
+use Rattle.cow_pages.specs.Memory.{Memory, Page, Table, page_in, pages_of, frame_at, frames_of, used_frames, distinct_count, RisesFrom, IsSound}
 use Rattle.cow_pages.specs.Pool.{holders}
-use Rattle.cow_pages.specs.Laws.{AreUsed, HasEntry}
+use Rattle.cow_pages.specs.Laws.{AreUsed}
 use Rattle.cow_pages.proofs.SoundLemmas.{count-step, holders-yes, holders-no, holders-append, absent, absent-step, AreBelow, distinct_and_absent}
 use Rattle.cow_pages.proofs.LawLemmas.{page_in-below}
 
@@ -50,17 +49,17 @@ page_with [] k f rises some = absurd (omega (arith, some))
 page_with ((q, first) ∷ rest) k f rises some =
     elim (cases_eq first.frame f) [
       | inl same ↦ record {
-          number = q;
-          is = ap (option_map (λ (page : Page). page.frame)) (cond-true (eqb q q) (Some first) (page_in rest q) (eq-eqb q q refl)) ∙ ap Some same;
-        }
+        number = q;
+        is = ap (option_map (λ (page : Page). page.frame)) (cond-true (eqb q q) (Some first) (page_in rest q) (eq-eqb q q refl)) ∙ ap Some same;
+      }
       | inr apart ↦
           let later = page_with rest (q + 1) f rises.1 (omega (arith, some, holders-no (frame_list rest) first.frame f apart)) in
           elim (cases_eq q later.number) [
             | inl equal ↦ absurd (none-some f (sym (ap (option_map (λ (page : Page). page.frame)) (page_in-below rest (q + 1) later.number rises.1 (omega arith))) ∙ later.is))
             | inr other ↦ record {
-                number = later.number;
-                is = ap (option_map (λ (page : Page). page.frame)) (cond-false (eqb q later.number) (Some first) (page_in rest later.number) (ne_eqb q later.number other)) ∙ later.is;
-              }
+              number = later.number;
+              is = ap (option_map (λ (page : Page). page.frame)) (cond-false (eqb q later.number) (Some first) (page_in rest later.number) (ne_eqb q later.number other)) ∙ later.is;
+            }
           ]
     ]
 

@@ -1,5 +1,5 @@
 -- What the laws say of every memory that is sound.
-use Rattle.std.specs.Prelude.{◌≡◌, ℕ, ◌+◌, ◌<◌, ◌^◌, false, List, length, count_by, Contains, Some, IsTrue, nat_eq}
+use Rattle.std.specs.Prelude.{◌≡◌, ℕ, ◌<◌, ◌^◌, false, List, count_by, Contains, Some, IsTrue, nat_eq}
 use Rattle.std.specs.Int.{w16, w32, w64, to_le_bytes}
 use Rattle.std.specs.List.{IsDistinct}
 use Rattle.cow_pages.specs.declared.address.Window.{Window}
