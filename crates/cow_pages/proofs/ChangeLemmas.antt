@@ -280,3 +280,11 @@ TakesOnCopy-more a b c t p takes room used = record {
   in_place = λ one. let kept = takes.in_place one in record { frames = room.frames ∙ kept.frames; spare = room.spare ∙ kept.spare };
   one = λ shared. let one = takes.one shared in record { spare = room.spare ∙ one.spare; frames = room.frames ∙ one.frames; used = used ∙ one.used };
 }
+
+-- where the frame had one sharer and no frame was taken
+pub TakesOnCopy-none : (a b : Memory) (t p : ℕ) → HasOneSharer a t p → KeepsRoom a b → TakesOnCopy a b t p
+TakesOnCopy-none a b t p alone room = record {
+  copied = record { spare = omega (arith, room.spare); had_spare = λ some. room.frames; frames = omega (arith, room.frames) };
+  in_place = λ one. room;
+  one = λ shared. absurd (shared.1 (alone shared.0 p shared.2).0);
+}

@@ -130,9 +130,36 @@ impl Store {
         }
     }
 
-    /// Writes the bytes in a frame that no other entry has, and sets the page's flag.
+    /// Writes the bytes in a frame that no other entry has, and sets the page's flag. A page whose flag is set has
+    /// such a frame.
     #[inline]
     pub fn write(&mut self, t: TableNo, at: Addr, bytes: &[u8]) -> Result<(), AllocError>
+        requires kept { IsKept self.old }
+        requires mapped { IsTrue (is_mapped (shown self.old) t.0 (page_of at.0)) }
+        requires room { offset_of at.0 + length bytes.now ≤ 4096 }
+        ensures kept { IsKept self.new }
+        ensures page { OnOk result (WritesPage (shown self.old) (shown self.new) t.0 at.0 bytes.now) }
+        ensures takes { OnOk result (TakesOnCopy (shown self.old) (shown self.new) t.0 (page_of at.0)) }
+        ensures succeeds { HasOneSharer (shown self.old) t.0 (page_of at.0) ⊎ (self.old.pool.spare ≢ 0) → IsOk result }
+        ensures only { OnErr result (IsShared (shown self.old) t.0 (page_of at.0) × (self.old.pool.spare ≡ 0)) }
+        ensures err { OnErr result (shown self.new ≡ shown self.old) }
+    {
+        let Some(place) = place_of(at.page()) else {
+            unreachable!()
+        };
+        let Some(entry) = self.entry(t, place) else {
+            unreachable!()
+        };
+        if entry.written {
+            self.put(t, place, entry, at.offset(), bytes);
+            return Ok(());
+        }
+        self.write_first(t, at, bytes)
+    }
+
+    /// Writes the bytes where the page's flag may not be set yet.
+    #[inline(never)]
+    fn write_first(&mut self, t: TableNo, at: Addr, bytes: &[u8]) -> Result<(), AllocError>
         requires kept { IsKept self.old }
         requires mapped { IsTrue (is_mapped (shown self.old) t.0 (page_of at.0)) }
         requires room { offset_of at.0 + length bytes.now ≤ 4096 }
