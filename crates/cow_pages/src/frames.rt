@@ -119,6 +119,7 @@ impl Frames {
     }
 
     /// The byte at an address. Counts the read where the address lies in the image or zygote window.
+    #[inline]
     pub fn read_u8(&mut self, t: TableNo, at: Addr) -> u8
         requires { IsTrue (is_mapped self.old t.0 (page_of at.0)) }
         ensures value { result ≡ byte_at self.old t.0 at.0 }
@@ -130,6 +131,7 @@ impl Frames {
     }
 
     /// The number of two bytes at an address, the lowest byte first. Counts the read where the address lies in the image or zygote window.
+    #[inline]
     pub fn read_u16(&mut self, t: TableNo, at: Addr) -> u16
         requires aligned { at.0 % 2 ≡ 0 }
         requires mapped { IsTrue (is_mapped self.old t.0 (page_of at.0)) }
@@ -143,6 +145,7 @@ impl Frames {
     }
 
     /// The number of four bytes at an address, the lowest byte first. Counts the read where the address lies in the image or zygote window.
+    #[inline]
     pub fn read_u32(&mut self, t: TableNo, at: Addr) -> u32
         requires aligned { at.0 % 4 ≡ 0 }
         requires mapped { IsTrue (is_mapped self.old t.0 (page_of at.0)) }
@@ -156,6 +159,7 @@ impl Frames {
     }
 
     /// The number of eight bytes at an address, the lowest byte first. Counts the read where the address lies in the image or zygote window.
+    #[inline]
     pub fn read_u64(&mut self, t: TableNo, at: Addr) -> u64
         requires aligned { at.0 % 8 ≡ 0 }
         requires mapped { IsTrue (is_mapped self.old t.0 (page_of at.0)) }
@@ -169,6 +173,7 @@ impl Frames {
     }
 
     /// Writes the byte at an address, and sets the page's written flag.
+    #[inline]
     pub fn write_u8(&mut self, t: TableNo, at: Addr, v: u8) -> Result<(), AllocError>
         requires { IsTrue (is_mapped self.old t.0 (page_of at.0)) }
         ensures page { OnOk result (WritesPage self.old self.new t.0 at.0 (v ∷ [])) }
@@ -185,6 +190,7 @@ impl Frames {
     }
 
     /// Writes a number of two bytes at an address, the lowest byte first, and sets the page's written flag.
+    #[inline]
     pub fn write_u16(&mut self, t: TableNo, at: Addr, v: u16) -> Result<(), AllocError>
         requires aligned { at.0 % 2 ≡ 0 }
         requires mapped { IsTrue (is_mapped self.old t.0 (page_of at.0)) }
@@ -202,6 +208,7 @@ impl Frames {
     }
 
     /// Writes a number of four bytes at an address, the lowest byte first, and sets the page's written flag.
+    #[inline]
     pub fn write_u32(&mut self, t: TableNo, at: Addr, v: u32) -> Result<(), AllocError>
         requires aligned { at.0 % 4 ≡ 0 }
         requires mapped { IsTrue (is_mapped self.old t.0 (page_of at.0)) }
@@ -219,6 +226,7 @@ impl Frames {
     }
 
     /// Writes a number of eight bytes at an address, the lowest byte first, and sets the page's written flag.
+    #[inline]
     pub fn write_u64(&mut self, t: TableNo, at: Addr, v: u64) -> Result<(), AllocError>
         requires aligned { at.0 % 8 ≡ 0 }
         requires mapped { IsTrue (is_mapped self.old t.0 (page_of at.0)) }
