@@ -7,7 +7,7 @@ use Rattle.cow_pages.specs.declared.frame.Frame.{Frame}
 use Rattle.cow_pages.specs.declared.table.Entry.{Entry}
 use Rattle.cow_pages.specs.declared.table.Table.{Table}
 use Rattle.cow_pages.specs.declared.store.Store.{Store}
-use Rattle.cow_pages.specs.Memory.{Memory, Page, page_at, is_live, HasOneSharer, IsShared, IsFree}
+use Rattle.cow_pages.specs.Memory.{Memory, Page, page_at, is_live, HasOneSharer, IsShared, IsFree, used_frames}
 use Rattle.cow_pages.specs.Change.{ChangesPage, ChangesTable, KeepsOrCopies, MapsZeros, written_page, patched, WritesPage, TakesOnCopy, KeepsRoom}
 use Rattle.cow_pages.specs.Address.{page_of, offset_of}
 use Rattle.cow_pages.specs.Place.{page_number, place_of}
@@ -270,12 +270,21 @@ written-by s mid new t at place o e own bs found is owns now offset rest =
       rest = subst (λ p. ChangesPage (shown s) (shown new) t p) number (ChangesPage-more (shown s) (shown mid) (shown new) t (page_number place) owns.rest rest);
     }
 
-pub TakesOnCopy-more : (a b c : Memory) (t p : ℕ) → TakesOnCopy a b t p → KeepsRoom b c → TakesOnCopy a c t p
-TakesOnCopy-more a b c t p takes room = record {
+pub TakesOnCopy-more : (a b c : Memory) (t p : ℕ) → TakesOnCopy a b t p → KeepsRoom b c → used_frames c ≡ used_frames b → TakesOnCopy a c t p
+TakesOnCopy-more a b c t p takes room used = record {
   copied = record {
     spare = omega (arith, takes.copied.spare, room.spare);
     had_spare = λ some. room.frames ∙ takes.copied.had_spare some;
     frames = omega (arith, takes.copied.frames, room.frames);
   };
   in_place = λ one. let kept = takes.in_place one in record { frames = room.frames ∙ kept.frames; spare = room.spare ∙ kept.spare };
+  one = λ shared. let one = takes.one shared in record { spare = room.spare ∙ one.spare; frames = room.frames ∙ one.frames; used = used ∙ one.used };
+}
+
+-- where the frame had one sharer and no frame was taken
+pub TakesOnCopy-none : (a b : Memory) (t p : ℕ) → HasOneSharer a t p → KeepsRoom a b → TakesOnCopy a b t p
+TakesOnCopy-none a b t p alone room = record {
+  copied = record { spare = omega (arith, room.spare); had_spare = λ some. room.frames; frames = omega (arith, room.frames) };
+  in_place = λ one. room;
+  one = λ shared. absurd (shared.1 (alone shared.0 p shared.2).0);
 }

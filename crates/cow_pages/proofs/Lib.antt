@@ -11,3 +11,5 @@ pub mod PlaceLemmas
 pub mod ReadLemmas
 pub mod ShownLemmas
 pub mod SoundLemmas
+pub mod LawLemmas
+pub mod UsedLemmas

@@ -7,8 +7,8 @@ use Rattle.cow_pages.specs.declared.frame.Frame.{Frame}
 use Rattle.cow_pages.specs.declared.table.Entry.{Entry}
 use Rattle.cow_pages.specs.declared.table.Table.{Table}
 use Rattle.cow_pages.specs.declared.store.Store.{Store}
-use Rattle.cow_pages.specs.Memory.{Memory, Table as Pages}
-use Rattle.cow_pages.specs.Change.{ChangesPage, MapsZeros, KeepsOrCopies, TakesFrame}
+use Rattle.cow_pages.specs.Memory.{Memory, Table as Pages, HasOneSharer, IsShared, used_frames}
+use Rattle.cow_pages.specs.Change.{ChangesPage, MapsZeros, KeepsOrCopies, TakesFrame, TakesOne, KeepsRoom}
 use Rattle.cow_pages.specs.Place.{page_number}
 use Rattle.cow_pages.specs.Pool.{bytes_of, sharers_of, holders, IsPool, AddsFrames}
 use Rattle.cow_pages.specs.Tables.{entries_of, entry_at, frames_in, all_frames}
@@ -17,6 +17,7 @@ use Rattle.cow_pages.proofs.FrameLemmas.{field_past}
 use Rattle.cow_pages.proofs.PoolLemmas.{AddsFrames-none}
 use Rattle.cow_pages.proofs.KeptLemmas.{elsewhere, most_once, holders-part, holders-tables}
 use Rattle.cow_pages.proofs.ChangeLemmas.{page_as}
+use Rattle.cow_pages.proofs.SoundLemmas.{counted}
 
 -- no entry has a number past the end
 pub none_past : (s : Store) → IsKept s → (f : ℕ) → length s.pool.frames.items ≤ f → holders (all_frames s.tables.items) f ≡ 0
@@ -150,6 +151,27 @@ TakesFrame-room s s1 new room len spare =
       had_spare = λ some. omega (arith, len, room.frames.len, some);
       frames = omega (arith, len, room.frames.len);
     }
+
+-- exactly one frame was taken
+pub TakesOne-kept : (s new : Store) → IsKept s → IsKept new → new.pool.spare ≡ s.pool.spare - 1 → length new.pool.frames.items ≡ length s.pool.frames.items + (1 - s.pool.spare) → TakesOne (shown s) (shown new)
+TakesOne-kept s new kept kept_new spare frames = record {
+  spare = spare;
+  frames = frames;
+  used = omega (arith, counted s kept, counted new kept_new, spare, frames);
+}
+
+pub TakesOne-room : (s s1 new : Store) → IsKept s → IsKept new → AddsRoom s s1 (1 - s.pool.spare) → length new.pool.frames.items ≡ length s1.pool.frames.items → new.pool.spare + 1 ≡ s1.pool.spare → TakesOne (shown s) (shown new)
+TakesOne-room s s1 new kept kept_new room len spare =
+    let more : s1.pool.spare ≡ s.pool.spare + (1 - s.pool.spare) = ap (λ (m : Memory). m.spare) room.shown in
+    TakesOne-kept s new kept kept_new (omega (arith, more, spare)) (omega (arith, len, room.frames.len))
+
+-- with as many frames and as many of them free, as many are used
+pub used-kept : (s new : Store) → IsKept s → IsKept new → KeepsRoom (shown s) (shown new) → used_frames (shown new) ≡ used_frames (shown s)
+used-kept s new kept kept_new room = omega (arith, counted s kept, counted new kept_new, room.frames, room.spare)
+
+-- a page whose frame has one sharer shares it with no other
+pub not_shared : (m : Memory) (t p : ℕ) → HasOneSharer m t p → IsShared m t p → ⊥
+not_shared m t p one other = other.1 (one other.0 p other.2).0
 
 -- what holds holds after an error
 pub on_err : {T E P : Type 0} (r : Result T E) → P → OnErr r P

@@ -4,7 +4,7 @@ use Rattle.std.proofs.lemmas.Bool.{cases_eq}
 use Rattle.cow_pages.specs.Address.{page_of, offset_of}
 use Rattle.cow_pages.specs.Memory.{Memory, Page, Table, page_in, pages_of, page_at, is_live, is_mapped, IsSound}
 use Rattle.cow_pages.specs.Change.{ChangesPage, ChangesTable, MapsZeros, WritesPage, settled, patched}
-use Rattle.cow_pages.specs.View.{View, view_of, byte_at, byte_in, numbers_from, SameView, OthersSeen, AllSeen, MapsPage, UnmapsPage, WritesBytes, IsEmptyView}
+use Rattle.cow_pages.specs.View.{View, view_of, byte_at, byte_in, numbers_from, SameView, OthersSeen, AllSeen, MapsPage, UnmapsPage, WritesBytes, IsEmptyView, bytes_at}
 use Rattle.cow_pages.proofs.FrameLemmas.{patched-before, patched-in, patched-after}
 
 pub byte-page : (old new : Memory) (t u at : ℕ) → page_at new u (page_of at) ≡ page_at old t (page_of at) → byte_at new u at ≡ byte_at old t at
@@ -114,6 +114,10 @@ WritesBytes-page old new t at bytes sound room w =
     kept : (o b k : ℕ) (bs : List ℕ) → (k < o) ⊎ (o + length bytes ≤ k) → o + length bytes ≤ length bs → get_or (patched bs o bytes) k 0 ≡ get_or bs k 0
     kept o b k bs (inl below) fits = patched-before bs o bytes k 0 fits below
     kept o b k bs (inr above) fits = patched-after bs o bytes k 0 fits above
+
+-- the byte of a list of one
+pub one_byte : (m : Memory) (t at v : ℕ) → bytes_at (view_of m t) at 1 ≡ v ∷ [] → byte_at m t at ≡ v
+one_byte m t at v is = ap (byte_at m t) (let e : at ≡ at + 0 = omega arith in e) ∙ ap (λ (bs : List ℕ). get_or bs 0 0) is
 
 -- a table that is not live has no pages
 pub ended-pages : (tables : Option Table) → is_some tables ≡ false → (p : ℕ) → page_in (pages_of tables) p ≡ None

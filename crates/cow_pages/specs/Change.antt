@@ -1,7 +1,7 @@
 -- What a call changes, and what stays as it was.
 use Rattle.std.specs.Prelude.{◌≡◌, ◌≢◌, ◌⊎◌, ℕ, ◌+◌, ◌≤◌, min, ◌^◌, ◌-◌, true, false, if◌then◌else◌, List, length, Option, Some, option_map, ◌++◌, take, drop, replicate}
 use Rattle.cow_pages.specs.Address.{page_of, offset_of, page_size, is_immune}
-use Rattle.cow_pages.specs.Memory.{Memory, Page, page_at, frame_at, is_live, HasOneSharer, IsShared, IsFree}
+use Rattle.cow_pages.specs.Memory.{Memory, Page, page_at, frame_at, is_live, HasOneSharer, IsShared, IsFree, used_frames}
 
 -- this page may have changed: every other page of every table is as it was, with its bytes, flag and frame
 pub record ChangesPage (old new : Memory) (t p : ℕ) : Type 0 where
@@ -25,6 +25,12 @@ pub record TakesFrame (old new : Memory) : Type 0 where
   pub spare : old.spare ≤ new.spare + 1
   pub had_spare : old.spare ≢ 0 → new.frames ≡ old.frames
   pub frames : new.frames ≤ old.frames + 1
+
+-- exactly one free frame was taken, after one was made where none was free
+pub record TakesOne (old new : Memory) : Type 0 where
+  pub spare : new.spare ≡ old.spare - 1
+  pub frames : new.frames ≡ old.frames + (1 - old.spare)
+  pub used : used_frames new ≡ used_frames old + 1
 
 -- no frame was made or lost, and no fewer are free
 pub record FreesFrames (old new : Memory) : Type 0 where
@@ -65,10 +71,11 @@ pub record WritesPage (old new : Memory) (t at : ℕ) (bytes : List ℕ) : Type 
   pub now : page_at new t (page_of at) ≡ Some (written_page (patched was.bytes (offset_of at) bytes) frame)
   pub rest : ChangesPage old new t (page_of at)
 
--- where the frame had one sharer none is taken, and else at most one
+-- where the frame had one sharer none is taken, and else one
 pub record TakesOnCopy (old new : Memory) (t p : ℕ) : Type 0 where
   pub copied : TakesFrame old new
   pub in_place : HasOneSharer old t p → KeepsRoom old new
+  pub one : IsShared old t p → TakesOne old new
 
 -- the page has zeros, no flag, and a frame that no entry had
 pub record MapsZeros (old new : Memory) (t p : ℕ) : Type 0 where

@@ -7,3 +7,4 @@ pub mod Place
 pub mod Pool
 pub mod Tables
 pub mod Store
+pub mod Laws

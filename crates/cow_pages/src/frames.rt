@@ -1,10 +1,10 @@
 //! All frames and all page tables, behind their public calls.
-ghost use Rattle.std.specs.Prelude.{◌≡◌, ℕ, ◌≢◌, ◌⊎◌, ◌+◌, ◌≤◌, ◌%◌, [], ◌∷◌, true, false, IsTrue, IsOk, IfOk, OnOk, OnErr, Some, None, option_map};
+ghost use Rattle.std.specs.Prelude.{◌≡◌, ℕ, ◌≢◌, ◌⊎◌, ◌+◌, ◌≤◌, ◌%◌, max, [], ◌∷◌, true, false, IsTrue, IsOk, IfOk, OnOk, OnErr, Some, None, option_map};
 ghost use Rattle.std.specs.Int.{w16, w32, w64, to_le_bytes};
 ghost use Rattle.cow_pages.specs.Address.{page_of, is_in_window};
 ghost use Rattle.cow_pages.specs.Memory.{is_live, page_at, frame_at, is_mapped, is_written, mapped_in, written_in, used_frames, IsSettled, HasOneSharer, IsShared, IsFree, IsSound};
 ghost use Rattle.cow_pages.specs.View.{view_of, byte_at, u16_at, u32_at, u64_at, bytes_at, WritesBytes, SameView, OthersSeen, AllSeen, IsEmptyView, MapsPage, UnmapsPage};
-ghost use Rattle.cow_pages.specs.Change.{ChangesPage, ChangesTable, KeepsRoom, TakesFrame, TakesOnCopy, FreesFrames, WritesPage, reads_after, MapsZeros, settled};
+ghost use Rattle.cow_pages.specs.Change.{ChangesPage, ChangesTable, KeepsRoom, TakesFrame, TakesOnCopy, TakesOne, FreesFrames, WritesPage, reads_after, MapsZeros, settled};
 
 use crate::address::{Addr, FrameNo, PageNo, TableNo, Window};
 use crate::frame::{u16_in, u32_in, u64_in};
@@ -66,6 +66,7 @@ impl Frames {
     /// Makes at least `k` frames free, as far as there are fewer.
     pub fn reserve(&mut self, k: usize) -> Result<(), AllocError>
         ensures room { OnOk result (k ≤ self.new.spare) }
+        ensures no_more { OnOk result (self.new.spare ≡ max self.old.spare k) }
         ensures rest { self.new ≡ record self.old { frames = self.new.frames; spare = self.new.spare } }
         ensures all_seen { AllSeen self.old self.new }
         ensures frames { self.old.frames ≤ self.new.frames }
@@ -109,6 +110,7 @@ impl Frames {
         ensures view { OnOk result (MapsPage (view_of self.old t.0) (view_of self.new t.0) page.0) }
         ensures others_seen { OnOk result (OthersSeen self.old self.new t.0) }
         ensures takes { OnOk result (TakesFrame self.old self.new) }
+        ensures one { OnOk result (TakesOne self.old self.new) }
         ensures succeeds { self.old.spare ≢ 0 → IsOk result }
         ensures err { OnErr result (self.new ≡ self.old) }
         ensures sound { IsSound self.new }
@@ -117,6 +119,7 @@ impl Frames {
     }
 
     /// The byte at an address. Counts the read where the address lies in the image or zygote window.
+    #[inline]
     pub fn read_u8(&mut self, t: TableNo, at: Addr) -> u8
         requires { IsTrue (is_mapped self.old t.0 (page_of at.0)) }
         ensures value { result ≡ byte_at self.old t.0 at.0 }
@@ -128,6 +131,7 @@ impl Frames {
     }
 
     /// The number of two bytes at an address, the lowest byte first. Counts the read where the address lies in the image or zygote window.
+    #[inline]
     pub fn read_u16(&mut self, t: TableNo, at: Addr) -> u16
         requires aligned { at.0 % 2 ≡ 0 }
         requires mapped { IsTrue (is_mapped self.old t.0 (page_of at.0)) }
@@ -141,6 +145,7 @@ impl Frames {
     }
 
     /// The number of four bytes at an address, the lowest byte first. Counts the read where the address lies in the image or zygote window.
+    #[inline]
     pub fn read_u32(&mut self, t: TableNo, at: Addr) -> u32
         requires aligned { at.0 % 4 ≡ 0 }
         requires mapped { IsTrue (is_mapped self.old t.0 (page_of at.0)) }
@@ -154,6 +159,7 @@ impl Frames {
     }
 
     /// The number of eight bytes at an address, the lowest byte first. Counts the read where the address lies in the image or zygote window.
+    #[inline]
     pub fn read_u64(&mut self, t: TableNo, at: Addr) -> u64
         requires aligned { at.0 % 8 ≡ 0 }
         requires mapped { IsTrue (is_mapped self.old t.0 (page_of at.0)) }
@@ -167,11 +173,13 @@ impl Frames {
     }
 
     /// Writes the byte at an address, and sets the page's written flag.
+    #[inline]
     pub fn write_u8(&mut self, t: TableNo, at: Addr, v: u8) -> Result<(), AllocError>
         requires { IsTrue (is_mapped self.old t.0 (page_of at.0)) }
         ensures page { OnOk result (WritesPage self.old self.new t.0 at.0 (v ∷ [])) }
         ensures view { OnOk result (WritesBytes (view_of self.old t.0) (view_of self.new t.0) at.0 (v ∷ [])) }
         ensures others_seen { OnOk result (OthersSeen self.old self.new t.0) }
+        ensures reads_back { OnOk result (byte_at self.new t.0 at.0 ≡ v) }
         ensures takes { OnOk result (TakesOnCopy self.old self.new t.0 (page_of at.0)) }
         ensures succeeds { HasOneSharer self.old t.0 (page_of at.0) ⊎ (self.old.spare ≢ 0) → IsOk result }
         ensures only { OnErr result (IsShared self.old t.0 (page_of at.0) × (self.old.spare ≡ 0)) }
@@ -182,6 +190,7 @@ impl Frames {
     }
 
     /// Writes a number of two bytes at an address, the lowest byte first, and sets the page's written flag.
+    #[inline]
     pub fn write_u16(&mut self, t: TableNo, at: Addr, v: u16) -> Result<(), AllocError>
         requires aligned { at.0 % 2 ≡ 0 }
         requires mapped { IsTrue (is_mapped self.old t.0 (page_of at.0)) }
@@ -199,6 +208,7 @@ impl Frames {
     }
 
     /// Writes a number of four bytes at an address, the lowest byte first, and sets the page's written flag.
+    #[inline]
     pub fn write_u32(&mut self, t: TableNo, at: Addr, v: u32) -> Result<(), AllocError>
         requires aligned { at.0 % 4 ≡ 0 }
         requires mapped { IsTrue (is_mapped self.old t.0 (page_of at.0)) }
@@ -216,6 +226,7 @@ impl Frames {
     }
 
     /// Writes a number of eight bytes at an address, the lowest byte first, and sets the page's written flag.
+    #[inline]
     pub fn write_u64(&mut self, t: TableNo, at: Addr, v: u64) -> Result<(), AllocError>
         requires aligned { at.0 % 8 ≡ 0 }
         requires mapped { IsTrue (is_mapped self.old t.0 (page_of at.0)) }
@@ -272,6 +283,7 @@ impl Frames {
         ensures view { UnmapsPage (view_of self.old t.0) (view_of self.new t.0) page.0 }
         ensures others_seen { OthersSeen self.old self.new t.0 }
         ensures room { FreesFrames self.old self.new }
+        ensures freed { self.new.spare ≡ self.old.spare + 1 }
         ensures sound { IsSound self.new }
     {
         self.store.release(t, page);

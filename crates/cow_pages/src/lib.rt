@@ -7,6 +7,7 @@
 mod address;
 mod frame;
 mod frames;
+mod laws;
 mod pool;
 mod store;
 mod table;
@@ -15,3 +16,4 @@ mod tests;
 
 pub use address::{Addr, FrameNo, PageNo, TableNo, Window};
 pub use frames::Frames;
+pub use laws::{counts_are_of_pages, numbers_are_bytes, used_frames_have_entries, views_are_paged};

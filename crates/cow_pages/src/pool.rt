@@ -109,6 +109,7 @@ impl Pool {
         ensures shares { Shares self.old.frames.items self.new.frames.items (result ∷ []) (from ∷ []) }
         ensures bytes { SetsBytes self.old.frames.items self.new.frames.items result (bytes_of self.old.frames.items from) }
         ensures spare { self.old.spare ≤ self.new.spare + 1 }
+        ensures one { 1 < sharers_of self.old.frames.items from → self.new.spare + 1 ≡ self.old.spare }
     {
         let number = self.take();
         self.copy(from, number);
@@ -125,6 +126,8 @@ impl Pool {
         ensures shares { Shares self.old.frames.items self.new.frames.items [] (number ∷ []) }
         ensures bytes { SameBytes self.old.frames.items self.new.frames.items }
         ensures spare { self.old.spare ≤ self.new.spare }
+        ensures held { 1 < sharers_of self.old.frames.items number → self.new.spare ≡ self.old.spare }
+        ensures freed { sharers_of self.old.frames.items number ≡ 1 → self.new.spare ≡ self.old.spare + 1 }
     {
         let frame = &mut self.frames[number];
         if frame.sharers > 1 {

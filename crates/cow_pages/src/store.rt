@@ -2,7 +2,7 @@
 ghost use Rattle.std.specs.Prelude.{◌≡◌, ◌≢◌, ◌⊎◌, ◌+◌, ◌-◌, ◌<◌, ◌≤◌, ℕ, [], length, IsOk, IfOk, OnOk, OnErr, Some, None, true, false, IsTrue, slice_index_or};
 ghost use Rattle.cow_pages.specs.Address.{page_of, offset_of, is_in_window};
 ghost use Rattle.cow_pages.specs.Memory.{is_live, is_mapped, page_at, frame_at, IsSettled, HasOneSharer, IsShared};
-ghost use Rattle.cow_pages.specs.Change.{ChangesPage, ChangesTable, FreesFrames, KeepsRoom, MapsZeros, TakesFrame, TakesOnCopy, WritesPage, patched, reads_after, settled, written_page};
+ghost use Rattle.cow_pages.specs.Change.{ChangesPage, ChangesTable, FreesFrames, KeepsRoom, MapsZeros, TakesFrame, TakesOnCopy, TakesOne, WritesPage, patched, reads_after, settled, written_page};
 ghost use Rattle.cow_pages.specs.Place.{page_number};
 ghost use Rattle.cow_pages.specs.Pool.{bytes_of, sharers_of};
 ghost use Rattle.cow_pages.specs.Tables.{entries_of, entry_at, AddsTable, AreCounted, IsCounted, SameTables, SetsEntry};
@@ -88,6 +88,7 @@ impl Store {
         ensures zeros { OnOk result (MapsZeros (shown self.old) (shown self.new) t.0 page.0) }
         ensures rest { OnOk result (ChangesPage (shown self.old) (shown self.new) t.0 page.0) }
         ensures takes { OnOk result (TakesFrame (shown self.old) (shown self.new)) }
+        ensures one { OnOk result (TakesOne (shown self.old) (shown self.new)) }
         ensures succeeds { self.old.pool.spare ≢ 0 → IsOk result }
         ensures err { OnErr result (shown self.new ≡ shown self.old) }
     {
@@ -129,9 +130,36 @@ impl Store {
         }
     }
 
-    /// Writes the bytes in a frame that no other entry has, and sets the page's flag.
+    /// Writes the bytes in a frame that no other entry has, and sets the page's flag. A page whose flag is set has
+    /// such a frame.
     #[inline]
     pub fn write(&mut self, t: TableNo, at: Addr, bytes: &[u8]) -> Result<(), AllocError>
+        requires kept { IsKept self.old }
+        requires mapped { IsTrue (is_mapped (shown self.old) t.0 (page_of at.0)) }
+        requires room { offset_of at.0 + length bytes.now ≤ 4096 }
+        ensures kept { IsKept self.new }
+        ensures page { OnOk result (WritesPage (shown self.old) (shown self.new) t.0 at.0 bytes.now) }
+        ensures takes { OnOk result (TakesOnCopy (shown self.old) (shown self.new) t.0 (page_of at.0)) }
+        ensures succeeds { HasOneSharer (shown self.old) t.0 (page_of at.0) ⊎ (self.old.pool.spare ≢ 0) → IsOk result }
+        ensures only { OnErr result (IsShared (shown self.old) t.0 (page_of at.0) × (self.old.pool.spare ≡ 0)) }
+        ensures err { OnErr result (shown self.new ≡ shown self.old) }
+    {
+        let Some(place) = place_of(at.page()) else {
+            unreachable!()
+        };
+        let Some(entry) = self.entry(t, place) else {
+            unreachable!()
+        };
+        if entry.written {
+            self.put(t, place, entry, at.offset(), bytes);
+            return Ok(());
+        }
+        self.write_first(t, at, bytes)
+    }
+
+    /// Writes the bytes where the page's flag may not be set yet.
+    #[inline(never)]
+    fn write_first(&mut self, t: TableNo, at: Addr, bytes: &[u8]) -> Result<(), AllocError>
         requires kept { IsKept self.old }
         requires mapped { IsTrue (is_mapped (shown self.old) t.0 (page_of at.0)) }
         requires room { offset_of at.0 + length bytes.now ≤ 4096 }
@@ -328,6 +356,7 @@ impl Store {
         ensures unmapped { page_at (shown self.new) t.0 page.0 ≡ None }
         ensures rest { ChangesPage (shown self.old) (shown self.new) t.0 page.0 }
         ensures room { FreesFrames (shown self.old) (shown self.new) }
+        ensures freed { HasOneSharer (shown self.old) t.0 page.0 → self.new.pool.spare ≡ self.old.pool.spare + 1 }
     {
         let Some(place) = place_of(page) else {
             unreachable!()

@@ -27,3 +27,21 @@ fn forks(rt: HostRuntime) -> Result<(), Fail> {
     assert_eq!(rt; frames.immune_reads(), before + 2);
     Ok(())
 }
+
+// Frames that are reserved, and writes of three sizes over one another, the lowest byte first.
+#[test]
+fn reserves_and_writes(rt: HostRuntime) -> Result<(), Fail> {
+    let mut frames = Frames::new(rt.alloc());
+    frames.reserve(3)?;
+    assert_eq!(rt; frames.spare(), 3);
+    let t = frames.new_table()?;
+    frames.map_zero(t, PageNo(0x40000))?;
+    frames.write_u64(t, Addr(0x40000ff8), 0x0102030405060708)?;
+    frames.write_u16(t, Addr(0x40000ffa), 0x1234)?;
+    frames.write_u8(t, Addr(0x40000fff), 0xa5)?;
+    assert_eq!(rt; frames.read_u64(t, Addr(0x40000ff8)), 0xa502030412340708);
+    assert_eq!(rt; frames.read_u8(t, Addr(0x40000ffa)), 0x34);
+    assert_eq!(rt; frames.spare(), 2);
+    assert_eq!(rt; frames.immune_reads(), 0);
+    Ok(())
+}

@@ -32,3 +32,6 @@ returns-clause-err c = rw (← c.self.view_is) c.map_zero.ensures.err
 
 pub returns-clause-sound : goal.returns-clause-sound
 returns-clause-sound c = sound _ c.map_zero.ensures.kept
+
+pub returns-clause-one : goal.returns-clause-one
+returns-clause-one c = rw (← c.self.view_is) c.map_zero.ensures.one

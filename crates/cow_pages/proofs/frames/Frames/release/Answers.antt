@@ -22,3 +22,6 @@ returns-clause-room c = rw (← c.self.view_is) c.release.ensures.room
 
 pub returns-clause-sound : goal.returns-clause-sound
 returns-clause-sound c = sound _ c.release.ensures.kept
+
+pub returns-clause-freed : goal.returns-clause-freed
+returns-clause-freed c = rw (← c.self.view_is) (c.release.ensures.freed (rw (← c.self.view_is) at c.requires.alone))

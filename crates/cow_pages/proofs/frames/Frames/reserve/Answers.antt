@@ -54,3 +54,6 @@ returns-clause-err c = rw (← c.self.view_is) c.reserve.ensures.err
 
 pub returns-clause-sound : goal.returns-clause-sound
 returns-clause-sound c = sound _ c.reserve.ensures.kept
+
+pub returns-clause-no_more : goal.returns-clause-no_more
+returns-clause-no_more c = rw (← c.self.view_is) (on_ok_weaker c.reserve.result (λ (m : AddsRoom c.self.inside.store c.reserve.new.self (c.args.k - c.self.inside.store.pool.spare)). omega (arith, ap (λ (it : Memory). it.spare) m.shown)) c.reserve.ensures.made)

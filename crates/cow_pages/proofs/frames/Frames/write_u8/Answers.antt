@@ -3,7 +3,7 @@ use Rattle.std.proofs.lemmas.Result.{on_ok_weaker}
 use Rattle.cow_pages.specs.Change.{WritesPage}
 use Rattle.cow_pages.specs.Store.{shown}
 use Rattle.cow_pages.proofs.SoundLemmas.{sound}
-use Rattle.cow_pages.proofs.ViewLemmas.{OthersSeen-page, WritesBytes-page}
+use Rattle.cow_pages.proofs.ViewLemmas.{OthersSeen-page, WritesBytes-page, one_byte}
 use Rattle.cow_pages.proofs.frames.Frames.write_u8.Goals as goal
 
 pub write-requires-clause-mapped : goal.write-requires-clause-mapped
@@ -29,3 +29,7 @@ returns-clause-others_seen c =
 
 pub returns-clause-sound : goal.returns-clause-sound
 returns-clause-sound c = sound _ c.write.ensures.kept
+
+pub returns-clause-reads_back : goal.returns-clause-reads_back
+returns-clause-reads_back c =
+    on_ok_weaker _ (λ (w : WritesPage (shown c.self.inside.store) (shown c.write.new.self) c.args.t.0 c.args.at.0 (c.args.v ∷ [])). one_byte (shown c.write.new.self) c.args.t.0 c.args.at.0 c.args.v (WritesBytes-page (shown c.self.inside.store) (shown c.write.new.self) c.args.t.0 c.args.at.0 (c.args.v ∷ []) (sound c.self.inside.store c.self.invariant) (omega arith) w).there) c.write.ensures.page

@@ -28,3 +28,9 @@ pub returns-clause-bytes : goal.returns-clause-bytes
 returns-clause-bytes c =
     let copied = subst (λ (bs : List ℕ). SetsBytes c.take-number.new.self.frames.items c.copy.new.self.frames.items c.take-number.result bs) (c.take-number.ensures.bytes.bytes c.args.from) c.copy.ensures.bytes in
     SetsBytes-then _ _ _ _ _ (SetsBytes-after _ _ _ _ _ c.take-number.ensures.bytes copied) c.unshare.ensures.bytes
+
+pub returns-clause-one : goal.returns-clause-one
+returns-clause-one c = λ many.
+    let both = Shares-more _ _ _ _ _ _ _ c.take-number.ensures.shares c.copy.ensures.shares in
+    let same = c.unshare.ensures.held (omega (arith, both.sharers c.args.from c.requires.within, many)) in
+    omega (arith, same, c.copy.ensures.spare, c.take-number.ensures.spare)

@@ -49,3 +49,13 @@ pub returns-clause-bytes : goal.returns-clause-bytes
 returns-clause-bytes c =
     let r = replaces c.args.self.now.frames.items c.args.number c.index_mut-frame.result.now (record c.index_mut-frame.result.now { sharers = 0; next = c.args.self.now.first_free; rank = c.args.self.now.spare + 1 }) c.requires.within c.index_mut-frame.ensures.value in
     SameBytes-replaces _ _ _ _ _ r refl
+
+pub returns-then-frame-gt1-clause-freed : goal.returns-then-frame-gt1-clause-freed
+returns-then-frame-gt1-clause-freed c =
+    let r = replaces c.args.self.now.frames.items c.args.number c.index_mut-frame.result.now (record c.index_mut-frame.result.now { sharers = c.index_mut-frame.result.now.sharers - 1 }) c.requires.within c.index_mut-frame.ensures.value in
+    λ one. absurd (omega (arith, r.sharers_was, c.if-frame-gt1.true, one))
+
+pub returns-clause-held : goal.returns-clause-held
+returns-clause-held c =
+    let r = replaces c.args.self.now.frames.items c.args.number c.index_mut-frame.result.now (record c.index_mut-frame.result.now { sharers = 0; next = c.args.self.now.first_free; rank = c.args.self.now.spare + 1 }) c.requires.within c.index_mut-frame.ensures.value in
+    λ many. absurd (omega (arith, r.sharers_was, c.if-frame-gt1.false, many))

@@ -4,11 +4,12 @@ use Rattle.cow_pages.specs.declared.pool.Pool.{Pool}
 use Rattle.cow_pages.specs.Place.{place_of}
 use Rattle.cow_pages.specs.Pool.{IsPool, Shares, SameBytes}
 use Rattle.cow_pages.specs.Tables.{entry_at}
-use Rattle.cow_pages.specs.Store.{page_of_entry}
+use Rattle.cow_pages.specs.Memory.{HasOneSharer}
+use Rattle.cow_pages.specs.Store.{page_of_entry, shown}
 use Rattle.cow_pages.proofs.PlaceLemmas.{place_found}
 use Rattle.cow_pages.proofs.ReadLemmas.{mapped_live, not_mapped, page_at-place, page_at-none}
 use Rattle.cow_pages.proofs.KeptLemmas.{held}
-use Rattle.cow_pages.proofs.ChangeLemmas.{released, live-there}
+use Rattle.cow_pages.proofs.ChangeLemmas.{released, live-there, one_from}
 use Rattle.cow_pages.proofs.store.Store.release.Goals as goal
 
 pub unreachable-requires : goal.unreachable-requires
@@ -78,3 +79,11 @@ returns-clause-rest c =
     (subst (λ (p : Pool). SameBytes s.pool.frames.items p.frames.items) (sym pool) un.ensures.bytes)
     c.set_entry.ensures.entry c.set_entry.ensures.reads in
     m.rest
+
+pub returns-clause-freed : goal.returns-clause-freed
+returns-clause-freed c = λ alone.
+    let s = c.args.self.now in
+    let found : place_of c.args.page.0 ≡ Some c.in-Some.place = sym c.place_of.ensures ∙ c.in-Some.is in
+    let is : entry_at s.tables.items c.args.t.0 c.in-Some.place ≡ Some c.in-Some-entry.entry = sym c.entry.ensures ∙ c.in-Some-entry.is in
+    let there = subst (λ p. HasOneSharer (shown s) c.args.t.0 p) (sym (place_found c.args.page.0 c.in-Some.place found).0) alone in
+    ap (λ (p : Pool). p.spare) c.set_entry.ensures.pool ∙ c.unshare.ensures.freed (one_from s c.requires.kept c.args.t.0 c.in-Some.place c.in-Some-entry.entry is there)
