@@ -1,0 +1,4 @@
+pub mod Numbers
+pub mod Laid
+pub mod Standing
+pub mod Spans
