@@ -23,7 +23,7 @@ mapped-nth f k (suc n) zero below = ap f (omega arith)
 mapped-nth f k (suc n) (suc i) below = mapped-nth f (k + 1) n i (omega arith) ∙ ap f (omega arith)
 
 pub bytes_at-nth : (v : View) (a n i : ℕ) → i < n → get_or (bytes_at v a n) i 0 ≡ v.byte (a + i)
-bytes_at-nth v a n i below = mapped-nth (λ i. v.byte (a + i)) 0 n i below
+bytes_at-nth v a n i below = mapped-nth (λ i. v.byte (a + i)) 0 n i below ∙ ap (λ k. v.byte (a + k)) (omega arith)
 
 -- equal bytes are an equal number
 pub number-same : (v w : View) (kind : Kind) (a b : ℕ) → ((i : ℕ) → i < kind_bytes kind → w.byte (b + i) ≡ v.byte (a + i)) → number_at w kind b ≡ number_at v kind a
