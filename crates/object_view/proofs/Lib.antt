@@ -3,3 +3,4 @@ pub mod Numbers
 pub mod Laid
 pub mod Standing
 pub mod Spans
+pub mod Heads

@@ -1,6 +1,7 @@
 -- Numbers in memory, as far as they follow from the bytes that they stand in.
 use Rattle.std.proofs.Common.{◌≡◌, ◌∙◌, ℕ, zero, suc, ◌+◌, ◌*◌, ◌/◌, ◌%◌, ◌^◌, ◌<◌, ◌≤◌, List, [], ◌∷◌, map, length, get_or, refl, sym, ap, subst, arith, true, Bool, pos}
 use Rattle.std.specs.Int.{w8, w16, w32, w64, from_le_bytes, to_le_bytes}
+use Rattle.std.proofs.lemmas.Nat.{from_le_bytes-to_le_bytes_4}
 use Rattle.class_layout.specs.declared.kind.Kind.{Kind}
 use Rattle.class_layout.specs.declared.kind.Kind.TheVariants.{Ref, Boolean, Byte, Char, Short, Int, Long}
 use Rattle.class_layout.specs.Kinds.{kind_bytes}
@@ -53,3 +54,40 @@ zero-number Long = refl
 -- where each byte is 0 the number is
 pub number-zero : (v : View) (kind : Kind) (a : ℕ) → ((i : ℕ) → i < kind_bytes kind → v.byte (a + i) ≡ 0) → number_at v kind a ≡ number_of kind (pos 0)
 number-zero v kind a none = number-same zeros v kind 0 a none ∙ zero-number kind
+
+-- a byte of eight that were written
+byte-of : (v : View) (a n i : ℕ) → i < 8 → bytes_at v a 8 ≡ to_le_bytes w64 n → v.byte (a + i) ≡ get_or (to_le_bytes w64 n) i 0
+byte-of v a n i below is = sym (bytes_at-nth v a 8 i below) ∙ ap (λ (bs : List ℕ). get_or bs i 0) is
+
+four-bytes : (v : View) (a n : ℕ) → n < 2 ^ 32 → v.byte (a + 0) ≡ get_or (to_le_bytes w32 n) 0 0 → v.byte (a + 1) ≡ get_or (to_le_bytes w32 n) 1 0
+    → v.byte (a + 2) ≡ get_or (to_le_bytes w32 n) 2 0 → v.byte (a + 3) ≡ get_or (to_le_bytes w32 n) 3 0 → u32_at v a ≡ n
+unfolding u32_at
+four-bytes v a n small b0 b1 b2 b3 =
+    let e : bytes_at v a 4 ≡ to_le_bytes w32 n = rw (b0, b1, b2, b3) refl in
+    ap (from_le_bytes w32) e ∙ from_le_bytes-to_le_bytes_4 n small
+
+-- two words that were written as one
+pub two-words : (v : View) (a low high : ℕ) → low < 2 ^ 32 → high < 2 ^ 32 → bytes_at v a 8 ≡ to_le_bytes w64 (low + high * 2 ^ 32) → (u32_at v a ≡ low) × (u32_at v (a + 4) ≡ high)
+two-words v a low high small_low small_high is =
+    let b : (i : ℕ) → i < 8 → v.byte (a + i) ≡ get_or (to_le_bytes w64 (low + high * 2 ^ 32)) i 0 = λ i below. byte-of v a (low + high * 2 ^ 32) i below is in
+    let c : (i : ℕ) → i < 4 → v.byte (a + 4 + i) ≡ get_or (to_le_bytes w64 (low + high * 2 ^ 32)) (4 + i) 0 =
+    λ i below. ap v.byte (let e : a + 4 + i ≡ a + (4 + i) = omega arith in e) ∙ b (4 + i) (omega arith) in
+    (four-bytes v a low small_low (b 0 (omega arith) ∙ omega arith) (b 1 (omega arith) ∙ omega arith) (b 2 (omega arith) ∙ omega arith) (b 3 (omega arith) ∙ omega arith),
+     four-bytes v (a + 4) high small_high (c 0 (omega arith) ∙ omega arith) (c 1 (omega arith) ∙ omega arith) (c 2 (omega arith) ∙ omega arith) (c 3 (omega arith) ∙ omega arith))
+
+-- the bytes of a small number that was written in eight
+pub one-word : (v : View) (a n : ℕ) → n < 2 ^ 32 → bytes_at v a 8 ≡ to_le_bytes w64 n → (u32_at v a ≡ n) × ((i : ℕ) → 4 ≤ i → i < 8 → v.byte (a + i) ≡ 0)
+one-word v a n small is =
+    let whole : bytes_at v a 8 ≡ to_le_bytes w64 (n + 0 * 2 ^ 32) = is ∙ ap (to_le_bytes w64) (omega arith) in
+    ((two-words v a n 0 small (omega arith) whole).0, λ i low below. byte-of v a n i below is ∙ high i low below)
+  where
+    high : (i : ℕ) → 4 ≤ i → i < 8 → get_or (to_le_bytes w64 n) i 0 ≡ 0
+    high zero low below = absurd (omega arith)
+    high (suc zero) low below = absurd (omega arith)
+    high (suc (suc zero)) low below = absurd (omega arith)
+    high (suc (suc (suc zero))) low below = absurd (omega arith)
+    high (suc (suc (suc (suc zero)))) low below = omega arith
+    high (suc (suc (suc (suc (suc zero))))) low below = omega arith
+    high (suc (suc (suc (suc (suc (suc zero)))))) low below = omega arith
+    high (suc (suc (suc (suc (suc (suc (suc zero))))))) low below = omega arith
+    high (suc (suc (suc (suc (suc (suc (suc (suc i)))))))) low below = absurd (omega arith)

@@ -75,7 +75,7 @@ Stands-beside cs v w at from to shape header values s changes beside =
     (λ i below. changes.others (at + i) (elim beside [ inl before ↦ inl (omega arith) | inr behind ↦ inr (omega arith) ]))
 
 -- a number beside what changed
-number-beside : (v w : View) (from to : ℕ) (kind : Kind) (at : ℕ) → ChangesWithin v w from to → (at + kind_bytes kind ≤ from) ⊎ (to ≤ at) → number_at w kind at ≡ number_at v kind at
+pub number-beside : (v w : View) (from to : ℕ) (kind : Kind) (at : ℕ) → ChangesWithin v w from to → (at + kind_bytes kind ≤ from) ⊎ (to ≤ at) → number_at w kind at ≡ number_at v kind at
 number-beside v w from to kind at changes beside =
     number-same v w kind at at (λ i below. changes.others (at + i) (elim beside [ inl before ↦ inl (omega arith) | inr behind ↦ inr (omega arith) ]))
 

@@ -1,11 +1,11 @@
 -- What the calls change in memory, and what stays as it was.
-use Rattle.std.specs.Prelude.{◌≡◌, ◌≢◌, ◌⊎◌, ℕ, zero, suc, ◌+◌, ◌-◌, ◌<◌, ◌≤◌, Bool, true, if◌then◌else◌, List, [], ◌∷◌, Option, Some, None, IsTrue, nat_lt}
+use Rattle.std.specs.Prelude.{◌≡◌, ◌≢◌, ◌⊎◌, ℕ, zero, suc, ◌+◌, ◌*◌, ◌-◌, ◌<◌, ◌≤◌, Bool, true, if◌then◌else◌, List, [], ◌∷◌, Option, Some, None, IsTrue, nat_lt}
 use Rattle.class_layout.specs.declared.kind.Kind.{Kind}
 use Rattle.class_layout.specs.Kinds.{kind_bytes}
 use Rattle.cow_pages.specs.Address.{page_of}
 use Rattle.cow_pages.specs.Memory.{Memory, page_at, frame_at, is_live, is_written, HasOneSharer, IsShared, IsFree}
 use Rattle.cow_pages.specs.Change.{KeepsRoom, reads_after}
-use Rattle.cow_pages.specs.View.{View}
+use Rattle.cow_pages.specs.View.{View, view_of}
 use Rattle.heap_graph.specs.declared.names.Shape.{Shape}
 use Rattle.heap_graph.specs.declared.names.Shape.TheVariants.{Instance, Array}
 use Rattle.object_view.specs.declared.names.Slot.{Slot}
@@ -59,6 +59,11 @@ pub record WritesSpan (old new : Memory) (t from to : ℕ) : Type 0 where
   pub pages : ChangesPages old new t (page_of from) (pages_in from to)
   pub written : AreWritten new t (page_of from) (pages_in from to)
   pub alone : AreAlone new t (page_of from) (pages_in from to)
+
+-- so many words of 8 bytes were written from an address on, and no other byte
+pub record WritesWords (old new : Memory) (t at n : ℕ) : Type 0 where
+  pub span : WritesSpan old new t at (at + 8 * n)
+  pub bytes : ChangesWithin (view_of old t) (view_of new t) at (at + 8 * n)
 
 -- the count of reads after reads at these addresses
 abbrev pub reads_after_all : ℕ → List ℕ → ℕ

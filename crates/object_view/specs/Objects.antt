@@ -65,6 +65,13 @@ pub record HasHeader (v : View) (at : ℕ) (header : Header) : Type 0 where
   pub header_fits : IsHeader header
   pub lock_is : u32_at v (at + 4) ≡ lock_word header
 
+-- the words of an object stand at the address, and zeros behind them up to so many bytes
+pub record HasWords (v : View) (at : ℕ) (shape : Shape) (header : Header) (bytes : ℕ) : Type 0 where
+  pub class_is : u32_at v at ≡ class_word shape
+  pub lock_is : u32_at v (at + 4) ≡ lock_word header
+  pub length_is : HasLength v at shape
+  pub zeros : (i : ℕ) → head_end shape ≤ i → i < bytes → v.byte (at + i) ≡ 0
+
 -- the class of the shape is there
 abbrev pub IsKnown : List Class → Shape → Type 0
 IsKnown cs (Instance class) = class < length cs

@@ -1,5 +1,5 @@
 //! Whole objects, and their references.
-ghost use Rattle.std.specs.Prelude.{◌≡◌, ◌⊎◌, ℕ, ◌+◌, ◌*◌, ◌/◌, ◌%◌, ◌^◌, ◌<◌, ◌≤◌, [], ◌++◌, Option, None, Some, option_map, IsTrue, IsOk, OnOk, OnErr, ℤ, List};
+ghost use Rattle.std.specs.Prelude.{◌≡◌, ◌⊎◌, ℕ, ◌+◌, ◌*◌, ◌/◌, ◌%◌, ◌^◌, ◌<◌, ◌≤◌, [], ◌++◌, Option, None, Some, option_map, IsTrue, IsOk, IfOk, OnOk, OnErr, ℤ, List};
 ghost use Rattle.class_layout.specs.declared.kind.FieldAt.{FieldAt};
 ghost use Rattle.class_layout.specs.ClassList.{Class};
 ghost use Rattle.cow_pages.specs.Address.{page_of};
@@ -7,10 +7,10 @@ ghost use Rattle.cow_pages.specs.Memory.{is_mapped, IsShared, IsSound, Memory};
 ghost use Rattle.cow_pages.specs.View.{byte_at, view_of, OthersSeen, WritesBytes};
 ghost use Rattle.std.specs.Int.{w64, to_le_bytes};
 ghost use Rattle.heap_graph.specs.Sizes.{size_in};
-ghost use Rattle.object_view.specs.Words.{class_word, lock_word};
+ghost use Rattle.object_view.specs.Words.{class_word, head_end, lock_word};
 ghost use Rattle.object_view.specs.Values.{no_values};
-ghost use Rattle.object_view.specs.Objects.{reference_place, slot_at, HasShape, IsKnown, IsObject, IsSpace, Stands};
-ghost use Rattle.object_view.specs.Changes.{pages_in, reads_after_all, shape_reads, slot_reads, steps_from, AreAlone, AreWritten, ChangesPages, ChangesWithin, HasBytes, WritesSpan};
+ghost use Rattle.object_view.specs.Objects.{reference_place, slot_at, HasShape, HasWords, IsKnown, IsObject, IsSpace, Stands};
+ghost use Rattle.object_view.specs.Changes.{pages_in, reads_after_all, shape_reads, slot_reads, steps_from, AreAlone, AreWritten, ChangesPages, ChangesWithin, HasBytes, WritesSpan, WritesWords};
 
 use crate::headers::read_shape;
 use crate::words::{class_word, lock_word};
@@ -45,14 +45,8 @@ pub fn write_new(
     ensures sound { IsSound frames.new }
 {
     let words = (size_of(classes, shape) / 8) as u32;
-    write_word(frames, t, at, 0, head_of(classes, shape, number))?;
-    match shape {
-        Shape::Instance(_) => write_zeros(frames, t, at, 1, words),
-        Shape::Array { count, .. } => {
-            write_word(frames, t, at, 1, u64::from(count))?;
-            write_zeros(frames, t, at, 2, words)
-        }
-    }
+    let first = write_head(frames, classes, t, at, shape, number)?;
+    write_zeros(frames, t, at, first, words)
 }
 
 /// Copies the bytes of an object, 8 at a time.
@@ -123,6 +117,36 @@ fn reference_at(classes: &Classes, shape: Shape, k: usize) -> Option<(u32, bool)
             count,
         } if k < count as usize => Some((12 + 4 * k as u32, false)),
         Shape::Array { .. } => None,
+    }
+}
+
+// Writes the words of a new object, and tells how many of 8 bytes they are.
+fn write_head(
+    frames: &mut Frames,
+    classes: &Classes,
+    t: TableNo,
+    at: Addr,
+    shape: Shape,
+    number: u32,
+) -> Result<u32, AllocError>
+    requires aligned { at.0 % 8 ≡ 0 }
+    requires known { IsKnown classes.now shape }
+    requires number { (1 ≤ number) × (number < 268435456) }
+    requires space { IsSpace (view_of frames.old t.0) at.0 (size_in classes.now shape) }
+    ensures head { IfOk result (λ n. HasWords (view_of frames.new t.0) at.0 shape (Header.Number number) (8 * n)) }
+    ensures all { IfOk result (λ n. (head_end shape ≤ 8 * n) × (8 * n ≤ size_in classes.now shape) × WritesWords frames.old frames.new t.0 at.0 n) }
+    ensures some { OnErr result ((n : ℕ) × (8 * n ≤ size_in classes.now shape) × WritesWords frames.old frames.new t.0 at.0 n) }
+    ensures reads { frames.new.reads ≡ frames.old.reads }
+    ensures only { OnErr result (AreAlone frames.old t.0 (page_of at.0) (pages_in at.0 (at.0 + size_in classes.now shape)) → ⊥) }
+    ensures sound { IsSound frames.new }
+{
+    write_word(frames, t, at, 0, head_of(classes, shape, number))?;
+    match shape {
+        Shape::Instance(_) => Ok(1),
+        Shape::Array { count, .. } => {
+            write_word(frames, t, at, 1, u64::from(count))?;
+            Ok(2)
+        }
     }
 }
 
