@@ -4,3 +4,4 @@ pub mod Laid
 pub mod Standing
 pub mod Spans
 pub mod Heads
+pub mod Lookups

@@ -1,6 +1,6 @@
 -- What writes of one page and of several words change among the pages.
 use Rattle.std.proofs.Common.{cond, ◌≡◌, ◌≢◌, ◌⊎◌, ◌∙◌, ℕ, zero, suc, ◌+◌, ◌*◌, ◌-◌, ◌/◌, ◌%◌, ◌<◌, ◌≤◌, Bool, true, false, List, [], ◌∷◌, Option, Some, None, refl, sym, ap, subst, inl, inr, arith, true≢false, IsTrue, nat_lt}
-use Rattle.std.specs.Prelude.{option_map}
+use Rattle.std.specs.Prelude.{option_map, Result, Ok, Err, OnOk, OnErr}
 use Rattle.std.proofs.lemmas.Bool.{cases_eq, cases_lt, lt-ltb, le-ltb}
 use Rattle.std.proofs.lemmas.Option.{same_Some, none-some}
 use Rattle.cow_pages.specs.Address.{page_of}
@@ -316,3 +316,9 @@ alone-next m old t at done total aligned multiple within s alone =
 -- a page with a frame of its own shares it with no other table
 pub not-shared : (m : Memory) (t p : ℕ) → HasOneSharer m t p → IsShared m t p → ⊥
 not-shared m t p one shared = shared.1 (one shared.0 p shared.2).0
+
+-- a call that wrote in one page, or nothing
+pub single-pages : {T E : Type 0} (r : Result T E) (old new : Memory) (t at p : ℕ) (bytes : List ℕ) → page_of at ≡ p → OnOk r (WritesPage old new t at bytes) → OnOk r (TakesOnCopy old new t (page_of at)) → OnErr r (new ≡ old)
+    → ChangesPages old new t p 1
+single-pages (Ok x) old new t at p bytes is w takes err = subst (λ q. ChangesPages old new t q 1) is (ChangesPages-write old new t at bytes w takes)
+single-pages (Err e) old new t at p bytes is w takes err = ChangesPages-same old new t p 1 err

@@ -154,14 +154,14 @@ Stands-stored cs v w at shape header values kind offset place z s is puts =
 
 -- an object that is forwarded
 pub Stands-forwarded : (cs : List Class) (v w : View) (at : ℕ) (shape : Shape) (header : Header) (values : FieldAt → ℤ) (to : Addr)
-    → Stands cs v at shape header values → to.0 % 8 ≡ 0 → PutsNumber v w Int (at + 4) (lock_word (Forward to))
+    → Stands cs v at shape header values → to.0 % 8 ≡ 0 → to.0 < 2 ^ 32 → PutsNumber v w Int (at + 4) (lock_word (Forward to))
     → Stands cs w at shape (Forward to) values
-Stands-forwarded cs v w at shape header values to s multiple puts =
+Stands-forwarded cs v w at shape header values to s multiple small puts =
     let bounds = size-bounds cs shape in
     record {
       aligned = s.aligned;
       space = space-kept v w at (size_in cs shape) puts.rest.mapped s.space;
-      header_fits = multiple;
+      header_fits = (multiple, small);
       class_is = number-beside v w (at + 4) (at + 4 + 4) Int at puts.rest (inl (omega arith)) ∙ s.class_is;
       lock_is = puts.there;
       length_is = length-beside v w at (at + 4) (at + 4 + 4) shape puts.rest (inr (omega arith)) s.length_is;

@@ -1,5 +1,5 @@
 -- The words at the head of an object: what its shape is, and its number or where it went.
-use Rattle.std.specs.Prelude.{◌≡◌, ⊤, ℕ, ◌+◌, ◌*◌, ◌/◌, ◌%◌, ◌<◌, ◌≤◌}
+use Rattle.std.specs.Prelude.{◌≡◌, ⊤, ℕ, ◌+◌, ◌*◌, ◌/◌, ◌%◌, ◌^◌, ◌<◌, ◌≤◌}
 use Rattle.class_layout.specs.declared.kind.Kind.{Kind}
 use Rattle.class_layout.specs.declared.kind.Kind.TheVariants.{Ref, Boolean, Byte, Char, Short, Int, Long}
 use Rattle.cow_pages.specs.View.{View, u32_at}
@@ -28,10 +28,10 @@ abbrev pub lock_word : Header → ℕ
 lock_word (Number n) = 0x80000000 + n
 lock_word (Forward to) = 0xc0000000 + to.0 / 8
 
--- allocation numbers are 1 to 268,435,455, and objects stand at multiples of 8
+-- allocation numbers are 1 to 268,435,455, and objects stand at addresses of 32 bits that are multiples of 8
 abbrev pub IsHeader : Header → Type 0
 IsHeader (Number n) = (1 ≤ n) × (n < 268435456)
-IsHeader (Forward to) = to.0 % 8 ≡ 0
+IsHeader (Forward to) = (to.0 % 8 ≡ 0) × (to.0 < 2 ^ 32)
 
 -- how many bytes an object's words take, with the length of an array
 abbrev pub head_end : Shape → ℕ

@@ -1,5 +1,5 @@
 //! Laws above the definitions: what they say, in other words.
-ghost use Rattle.std.specs.Prelude.{◌≡◌, ◌⊎◌, ℕ, ◌+◌, ◌≤◌, ◌%◌, ◌<◌, Some, IsTrue, ℤ, List};
+ghost use Rattle.std.specs.Prelude.{◌≡◌, ◌⊎◌, ℕ, ◌+◌, ◌≤◌, ◌%◌, ◌^◌, ◌<◌, Some, IsTrue, ℤ, List};
 ghost use Rattle.class_layout.specs.declared.kind.FieldAt.{FieldAt};
 ghost use Rattle.class_layout.specs.declared.kind.Kind.{Kind};
 ghost use Rattle.class_layout.specs.ClassList.{Class, layout_of};
@@ -54,7 +54,7 @@ pub fn stored_values_stand()
 /// An object that is forwarded has its values.
 pub fn forwarded_objects_stand()
     ensures { (cs : List Class) (old new : View) (at : ℕ) (shape : Shape) (header : Header) (values : FieldAt → ℤ) (to : Addr)
-        → Stands cs old at shape header values → to.0 % 8 ≡ 0 → PutsNumber old new Kind.Int (at + 4) (lock_word (Forward to))
+        → Stands cs old at shape header values → to.0 % 8 ≡ 0 → to.0 < 2 ^ 32 → PutsNumber old new Kind.Int (at + 4) (lock_word (Forward to))
         → Stands cs new at shape (Forward to) values }
 {}
 
