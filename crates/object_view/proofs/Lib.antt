@@ -5,3 +5,4 @@ pub mod Standing
 pub mod Spans
 pub mod Heads
 pub mod Lookups
+pub mod Stores

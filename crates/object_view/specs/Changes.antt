@@ -1,11 +1,11 @@
 -- What the calls change in memory, and what stays as it was.
-use Rattle.std.specs.Prelude.{◌≡◌, ◌≢◌, ◌⊎◌, ℕ, zero, suc, ◌+◌, ◌*◌, ◌-◌, ◌<◌, ◌≤◌, Bool, true, if◌then◌else◌, List, [], ◌∷◌, Option, Some, None, IsTrue, nat_lt}
+use Rattle.std.specs.Prelude.{◌≡◌, ◌≢◌, ◌⊎◌, ℕ, zero, suc, ◌+◌, ◌*◌, ◌-◌, ◌<◌, ◌≤◌, Bool, true, if◌then◌else◌, List, [], ◌∷◌, Option, Some, None, Result, OnOk, OnErr, IsOk, IsTrue, nat_lt}
 use Rattle.class_layout.specs.declared.kind.Kind.{Kind}
 use Rattle.class_layout.specs.Kinds.{kind_bytes}
 use Rattle.cow_pages.specs.Address.{page_of}
-use Rattle.cow_pages.specs.Memory.{Memory, page_at, frame_at, is_live, is_written, HasOneSharer, IsShared, IsFree}
+use Rattle.cow_pages.specs.Memory.{Memory, page_at, frame_at, is_live, is_written, HasOneSharer, IsShared, IsFree, IsSound}
 use Rattle.cow_pages.specs.Change.{KeepsRoom, reads_after}
-use Rattle.cow_pages.specs.View.{View, view_of}
+use Rattle.cow_pages.specs.View.{View, view_of, OthersSeen}
 use Rattle.heap_graph.specs.declared.names.Shape.{Shape}
 use Rattle.heap_graph.specs.declared.names.Shape.TheVariants.{Instance, Array}
 use Rattle.object_view.specs.declared.names.Slot.{Slot}
@@ -53,6 +53,18 @@ pub record ChangesPages (old new : Memory) (t first n : ℕ) : Type 0 where
   pub spare : (alone : ℕ → Bool) → ((p : ℕ) → alone p ≡ true → HasOneSharer old t p) → old.spare ≤ new.spare + others_among alone first n
   -- and none where each page had a frame of its own
   pub in_place : AreAlone old t first n → KeepsRoom old new
+
+-- what the store of a number does, with its outcome: nothing, where memory was wanting
+pub record StoresNumber {T E : Type 0} (result : Result T E) (old new : Memory) (t : ℕ) (kind : Kind) (at number : ℕ) : Type 0 where
+  pub puts : OnOk result (PutsNumber (view_of old t) (view_of new t) kind at number)
+  pub pages : ChangesPages old new t (page_of at) 1
+  pub written : OnOk result (AreWritten new t (page_of at) 1)
+  pub others_seen : OthersSeen old new t
+  pub reads : new.reads ≡ old.reads
+  pub succeeds : HasOneSharer old t (page_of at) ⊎ (old.spare ≢ 0) → IsOk result
+  pub only : OnErr result (IsShared old t (page_of at) × (old.spare ≡ 0))
+  pub err : OnErr result (new ≡ old)
+  pub sound : IsSound new
 
 -- bytes were written from one address up to another, in pages that now have frames of their own
 pub record WritesSpan (old new : Memory) (t from to : ℕ) : Type 0 where

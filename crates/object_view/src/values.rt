@@ -9,7 +9,7 @@ ghost use Rattle.cow_pages.specs.Change.{reads_after};
 ghost use Rattle.cow_pages.specs.View.{view_of, OthersSeen};
 ghost use Rattle.object_view.specs.Objects.{IsPlace, Stands};
 ghost use Rattle.object_view.specs.Values.{is_value, number_at, number_of, value_of, with_value};
-ghost use Rattle.object_view.specs.Changes.{AreWritten, ChangesPages, PutsNumber};
+ghost use Rattle.object_view.specs.Changes.{AreWritten, ChangesPages, PutsNumber, StoresNumber};
 
 use crate::Header;
 use class_layout::Kind;
@@ -28,16 +28,7 @@ pub fn load(frames: &mut Frames, t: TableNo, at: Addr, kind: Kind, offset: u32) 
     ensures reads { frames.new ≡ record frames.old { reads = reads_after frames.old.reads (at.0 + offset) } }
     ensures sound { IsSound frames.new }
 {
-    let place = Addr(at.0 + offset);
-    match kind {
-        Kind::Ref => i64::from(frames.read_u32(t, place)),
-        Kind::Boolean => i64::from(frames.read_u8(t, place)),
-        Kind::Byte => i64::from(frames.read_u8(t, place).cast_signed()),
-        Kind::Char => i64::from(frames.read_u16(t, place)),
-        Kind::Short => i64::from(frames.read_u16(t, place).cast_signed()),
-        Kind::Int => i64::from(frames.read_u32(t, place).cast_signed()),
-        Kind::Long => frames.read_u64(t, place).cast_signed(),
-    }
+    load_at(frames, t, Addr(at.0 + offset), kind)
 }
 
 /// Puts a value of a kind `offset` bytes behind `at`. A reference is its address, and null is 0. Nothing else changes,
@@ -66,7 +57,41 @@ pub fn store(
     ensures err { OnErr result (frames.new ≡ frames.old) }
     ensures sound { IsSound frames.new }
 {
-    let place = Addr(at.0 + offset);
+    store_at(frames, t, Addr(at.0 + offset), kind, v)
+}
+
+#[inline]
+fn load_at(frames: &mut Frames, t: TableNo, place: Addr, kind: Kind) -> i64
+    requires aligned { place.0 % kind_bytes kind ≡ 0 }
+    requires mapped { IsTrue (is_mapped frames.old t.0 (page_of place.0)) }
+    ensures value { result ≡ value_of kind (number_at (view_of frames.old t.0) kind place.0) }
+    ensures reads { frames.new ≡ record frames.old { reads = reads_after frames.old.reads place.0 } }
+    ensures sound { IsSound frames.new }
+{
+    match kind {
+        Kind::Ref => i64::from(frames.read_u32(t, place)),
+        Kind::Boolean => i64::from(frames.read_u8(t, place)),
+        Kind::Byte => i64::from(frames.read_u8(t, place).cast_signed()),
+        Kind::Char => i64::from(frames.read_u16(t, place)),
+        Kind::Short => i64::from(frames.read_u16(t, place).cast_signed()),
+        Kind::Int => i64::from(frames.read_u32(t, place).cast_signed()),
+        Kind::Long => frames.read_u64(t, place).cast_signed(),
+    }
+}
+
+#[inline]
+fn store_at(
+    frames: &mut Frames,
+    t: TableNo,
+    place: Addr,
+    kind: Kind,
+    v: i64,
+) -> Result<(), AllocError>
+    requires aligned { place.0 % kind_bytes kind ≡ 0 }
+    requires mapped { IsTrue (is_mapped frames.old t.0 (page_of place.0)) }
+    requires value { IsTrue (is_value kind v) }
+    ensures { StoresNumber result frames.old frames.new t.0 kind place.0 (number_of kind v) }
+{
     match kind {
         Kind::Ref => frames.write_u32(t, place, v as u32),
         Kind::Boolean => frames.write_u8(t, place, v as u8),
