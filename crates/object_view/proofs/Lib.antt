@@ -6,3 +6,4 @@ pub mod Spans
 pub mod Heads
 pub mod Lookups
 pub mod Stores
+pub mod Copies
