@@ -13,8 +13,10 @@ use Rattle.object_view.proofs.Lookups.{byte-reads}
 
 -- one read more
 reads-more : (r a n : ℕ) → reads_after_all r (steps_from a (suc n)) ≡ reads_after (reads_after_all r (steps_from a n)) (a + 8 * n)
-reads-more r a zero = ap (reads_after r) (omega arith)
-reads-more r a (suc n) = reads-more (reads_after r a) (a + 8) n ∙ ap (reads_after (reads_after_all r (steps_from a (suc n)))) (omega arith)
+reads-more r a zero = let e : a ≡ a + 8 * 0 = omega arith in ap (reads_after r) e
+reads-more r a (suc n) =
+    let e : a + 8 + 8 * n ≡ a + 8 * suc n = omega arith in
+    reads-more (reads_after r a) (a + 8) n ∙ ap (reads_after (reads_after_all r (steps_from a (suc n)))) e
 
 -- so many words were copied, and nothing else changed
 pub record IsCopying (m now : Memory) (t from to n : ℕ) : Type 0 where
@@ -32,18 +34,25 @@ words-reads m old t at i n words = record {
   bytes = record { others = λ b off. byte-reads old t n b ∙ words.bytes.others b off; mapped = words.bytes.mapped };
 }
 
-module _ (m old mid new : Memory) (t from to size i word : ℕ) (apart : (from + size ≤ to) ⊎ (to + size ≤ from)) (within : 8 * i + 8 ≤ size) (so_far : IsCopying m old t from to i)
-  (read : to_le_bytes w64 word ≡ bytes_at (view_of old t) (from + 8 * i) 8) (counts : mid ≡ record old { reads = reads_after old.reads (from + 8 * i) })
-  (writes : WritesBytes (view_of mid t) (view_of new t) (to + 8 * i) (to_le_bytes w64 word)) (span : (m : Memory) → WritesSpan m mid t to (to + 8 * i) → WritesSpan m new t to (to + 8 * (i + 1)))
-  (same : new.reads ≡ mid.reads) where
-  words-mid : WritesWords m mid t to i
+module _ (m old mid : Memory) (t from to i : ℕ) (so_far : IsCopying m old t from to i) (counts : mid ≡ record old { reads = reads_after old.reads (from + 8 * i) }) where
+  -- a read of the next word changes nothing but the count
+  pub words-mid : WritesWords m mid t to i
   words-mid = subst (λ (n : Memory). WritesWords m n t to i) (sym counts) (words-reads m old t to i (reads_after old.reads (from + 8 * i)) so_far.words)
 
   byte-mid : (b : ℕ) → byte_at mid t b ≡ byte_at old t b
   byte-mid b = ap (λ (n : Memory). byte_at n t b) counts ∙ byte-reads old t (reads_after old.reads (from + 8 * i)) b
 
+  pub reads-mid : mid.reads ≡ reads_after_all m.reads (steps_from from (i + 1))
+  reads-mid =
+      ap (λ (n : Memory). n.reads) counts ∙ ap (λ n. reads_after n (from + 8 * i)) so_far.reads
+      ∙ sym (reads-more m.reads from i) ∙ ap (λ n. reads_after_all m.reads (steps_from from n)) (let e : suc i ≡ i + 1 = omega arith in e)
+
+module _ (m old mid new : Memory) (t from to size i word : ℕ) (apart : (from + size ≤ to) ⊎ (to + size ≤ from)) (within : 8 * i + 8 ≤ size) (so_far : IsCopying m old t from to i)
+  (read : to_le_bytes w64 word ≡ bytes_at (view_of old t) (from + 8 * i) 8) (counts : mid ≡ record old { reads = reads_after old.reads (from + 8 * i) })
+  (writes : WritesBytes (view_of mid t) (view_of new t) (to + 8 * i) (to_le_bytes w64 word)) (span : (m : Memory) → WritesSpan m mid t to (to + 8 * i) → WritesSpan m new t to (to + 8 * (i + 1)))
+  (same : new.reads ≡ mid.reads) where
   before : (b : ℕ) → b < 8 * i → byte_at new t (to + b) ≡ byte_at m t (from + b)
-  before b below = writes.others (to + b) (inl (omega arith)) ∙ byte-mid (to + b) ∙ so_far.copied b below
+  before b below = writes.others (to + b) (inl (omega arith)) ∙ byte-mid m old mid t from to i so_far counts (to + b) ∙ so_far.copied b below
 
   here : (j : ℕ) → j < 8 → byte_at new t (to + 8 * i + j) ≡ byte_at m t (from + 8 * i + j)
   here j below =
@@ -54,14 +63,12 @@ module _ (m old mid new : Memory) (t from to size i word : ℕ) (apart : (from +
 
   pub IsCopying-step : IsCopying m new t from to (i + 1)
   IsCopying-step = record {
-    words = WritesWords-step m mid new t to i word words-mid writes (span m words-mid.span);
+    words = WritesWords-step m mid new t to i word (words-mid m old mid t from to i so_far counts) writes (span m (words-mid m old mid t from to i so_far counts).span);
     copied = λ b below. elim (cases_lt b (8 * i)) [
       | inl low ↦ before b low
       | inr high ↦
           let j : ℕ = b - 8 * i in
           ap (byte_at new t) (let e : to + b ≡ to + 8 * i + (b - 8 * i) = omega arith in e) ∙ here j (omega arith) ∙ ap (byte_at m t) (let e : from + 8 * i + (b - 8 * i) ≡ from + b = omega arith in e)
     ];
-    reads =
-        same ∙ ap (λ (n : Memory). n.reads) counts ∙ ap (λ n. reads_after n (from + 8 * i)) so_far.reads
-        ∙ sym (reads-more m.reads from i) ∙ ap (λ n. reads_after_all m.reads (steps_from from n)) (let e : suc i ≡ i + 1 = omega arith in e);
+    reads = same ∙ reads-mid m old mid t from to i so_far counts;
   }
