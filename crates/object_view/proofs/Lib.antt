@@ -7,3 +7,4 @@ pub mod Heads
 pub mod Lookups
 pub mod Stores
 pub mod Copies
+pub mod Bytes

@@ -110,7 +110,7 @@ value-again Short z is = to_z-of_z w16 z (fits-short z is)
 value-again Int z is = to_z-of_z w32 z (fits-int z is)
 value-again Long z is = to_z-of_z w64 z (fits-long z is)
 
-all-in : (P : FieldAt → Type 0) (ps : List FieldAt) (p : FieldAt) → IsIn p ps → AllByRecursion P ps → P p
+pub all-in : (P : FieldAt → Type 0) (ps : List FieldAt) (p : FieldAt) → IsIn p ps → AllByRecursion P ps → P p
 all-in P [] p there all = absurd there
 all-in P (q ∷ ps) p (inl same) all = subst P same all.0
 all-in P (q ∷ ps) p (inr there) all = all-in P ps p there all.1

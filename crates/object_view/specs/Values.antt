@@ -1,5 +1,5 @@
 -- Values in memory: numbers of their kinds' bytes, in two's complement, the lowest byte first.
-use Rattle.std.specs.Prelude.{ℕ, Bool, if◌then◌else◌, ◌==◌, ℤ, pos}
+use Rattle.std.specs.Prelude.{ℕ, ◌<◌, Bool, if◌then◌else◌, ◌==◌, ℤ, pos}
 use Rattle.std.specs.Int.{Width, w8, w16, w32, w64, cast_signed, cast_unsigned}
 use Rattle.class_layout.specs.declared.kind.Kind.{Kind}
 use Rattle.class_layout.specs.declared.kind.Kind.TheVariants.{Ref, Boolean, Byte, Char, Short, Int, Long}
@@ -50,6 +50,10 @@ is_value Char z = in_range Char z
 is_value Short z = in_range Short z
 is_value Int z = in_range Int z
 is_value Long z = in_range Long z
+
+-- each byte of a view is below 256
+abbrev pub AreBytes : View → Type 0
+AreBytes v = (at : ℕ) → v.byte at < 256
 
 -- zeros, and null for references
 abbrev pub no_values : FieldAt → ℤ

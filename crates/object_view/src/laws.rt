@@ -7,14 +7,15 @@ ghost use Rattle.class_layout.specs.Kinds.{kind_bytes};
 ghost use Rattle.class_layout.specs.Layout.{field_named};
 ghost use Rattle.class_layout.specs.Placing.{IsIn};
 ghost use Rattle.cow_pages.specs.declared.address.Addr.{Addr};
-ghost use Rattle.cow_pages.specs.View.{View};
+ghost use Rattle.cow_pages.specs.Memory.{IsSound, Memory};
+ghost use Rattle.cow_pages.specs.View.{view_of, View};
 ghost use Rattle.heap_graph.specs.declared.names.Shape.{Shape};
 ghost use Rattle.heap_graph.specs.Sizes.{size_in};
 ghost use Rattle.object_view.specs.declared.names.Header.{Header};
 ghost use Rattle.object_view.specs.declared.names.Header.TheVariants.{Forward};
 ghost use Rattle.object_view.specs.Changes.{ChangesWithin, HasBytes, PutsNumber};
 ghost use Rattle.object_view.specs.Objects.{element, places_of, reference_place, HasHeader, HasShape, IsPlace, IsSpace, Stands};
-ghost use Rattle.object_view.specs.Values.{is_value, number_of, value_of, with_value};
+ghost use Rattle.object_view.specs.Values.{is_value, number_of, value_of, with_value, AreBytes};
 ghost use Rattle.object_view.specs.Words.{head_end, lock_word};
 
 /// An object has its shape and its header, and no other.
@@ -70,4 +71,11 @@ pub fn others_stand()
     ensures { (cs : List Class) (old new : View) (at from to : ℕ) (shape : Shape) (header : Header) (values : FieldAt → ℤ)
         → Stands cs old at shape header values → ChangesWithin old new from to → (at + size_in cs shape ≤ from) ⊎ (to ≤ at)
         → Stands cs new at shape header values }
+{}
+
+/// What stands for an object is each of its bytes: where the same object stands twice, the bytes are the same.
+pub fn objects_are_their_bytes()
+    ensures bytes { (cs : List Class) (v w : View) (from to : ℕ) (shape : Shape) (header : Header) (values : FieldAt → ℤ) → AreBytes v → AreBytes w → Stands cs v from shape header values
+        → Stands cs w to shape header values → HasBytes v w from to (size_in cs shape) }
+    ensures small { (m : Memory) (t : ℕ) → IsSound m → AreBytes (view_of m t) }
 {}
