@@ -1,11 +1,11 @@
 -- Copies of 8 bytes at a time.
-use Rattle.std.proofs.Common.{◌≡◌, ◌⊎◌, ◌∙◌, ℕ, zero, suc, ◌+◌, ◌*◌, ◌-◌, ◌%◌, ◌<◌, ◌≤◌, List, get_or, refl, sym, ap, subst, inl, inr, arith}
+use Rattle.std.proofs.Common.{◌≡◌, ◌⊎◌, ◌∙◌, ℕ, zero, suc, ◌+◌, ◌*◌, ◌-◌, ◌<◌, ◌≤◌, List, get_or, refl, sym, ap, subst, inl, inr, arith}
 use Rattle.std.specs.Int.{w64, to_le_bytes}
 use Rattle.std.proofs.lemmas.Bool.{cases_lt}
 use Rattle.cow_pages.specs.Memory.{Memory}
 use Rattle.cow_pages.specs.Change.{reads_after}
 use Rattle.cow_pages.specs.View.{byte_at, bytes_at, view_of, WritesBytes}
-use Rattle.object_view.specs.Changes.{reads_after_all, steps_from, ChangesWithin, WritesSpan, WritesWords}
+use Rattle.object_view.specs.Changes.{reads_after_all, steps_from, WritesSpan, WritesWords}
 use Rattle.object_view.proofs.Numbers.{bytes_at-nth}
 use Rattle.object_view.proofs.Spans.{WritesSpan-reads}
 use Rattle.object_view.proofs.Heads.{WritesWords-none, WritesWords-step}
@@ -48,9 +48,9 @@ module _ (m old mid : Memory) (t from to i : ℕ) (so_far : IsCopying m old t fr
       ∙ sym (reads-more m.reads from i) ∙ ap (λ n. reads_after_all m.reads (steps_from from n)) (let e : suc i ≡ i + 1 = omega arith in e)
 
 module _ (m old mid new : Memory) (t from to size i word : ℕ) (apart : (from + size ≤ to) ⊎ (to + size ≤ from)) (within : 8 * i + 8 ≤ size) (so_far : IsCopying m old t from to i)
-  (read : to_le_bytes w64 word ≡ bytes_at (view_of old t) (from + 8 * i) 8) (counts : mid ≡ record old { reads = reads_after old.reads (from + 8 * i) })
-  (writes : WritesBytes (view_of mid t) (view_of new t) (to + 8 * i) (to_le_bytes w64 word)) (span : (m : Memory) → WritesSpan m mid t to (to + 8 * i) → WritesSpan m new t to (to + 8 * (i + 1)))
-  (same : new.reads ≡ mid.reads) where
+    (read : to_le_bytes w64 word ≡ bytes_at (view_of old t) (from + 8 * i) 8) (counts : mid ≡ record old { reads = reads_after old.reads (from + 8 * i) })
+    (writes : WritesBytes (view_of mid t) (view_of new t) (to + 8 * i) (to_le_bytes w64 word)) (span : (m : Memory) → WritesSpan m mid t to (to + 8 * i) → WritesSpan m new t to (to + 8 * (i + 1)))
+    (same : new.reads ≡ mid.reads) where
   before : (b : ℕ) → b < 8 * i → byte_at new t (to + b) ≡ byte_at m t (from + b)
   before b below = writes.others (to + b) (inl (omega arith)) ∙ byte-mid m old mid t from to i so_far counts (to + b) ∙ so_far.copied b below
 

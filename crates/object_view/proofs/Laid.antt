@@ -1,6 +1,6 @@
 -- The places of an object's values: they rise, lie apart, and lie in the object.
-use Rattle.std.proofs.Common.{◌≡◌, ◌≢◌, ◌⊎◌, ◌∙◌, ℕ, zero, suc, ◌+◌, ◌*◌, ◌/◌, ◌%◌, ◌-◌, ◌<◌, ◌≤◌, Bool, true, false, List, [], ◌∷◌, ◌++◌, Option, Some, None, map, length, filter, refl, sym, ap, subst, inl, inr, arith, slice_get}
-use Rattle.std.specs.List.{AllByRecursion, find, list_any}
+use Rattle.std.proofs.Common.{◌≡◌, ◌⊎◌, ◌∙◌, ℕ, zero, suc, ◌+◌, ◌*◌, ◌%◌, ◌<◌, ◌≤◌, Bool, true, false, List, [], ◌∷◌, ◌++◌, Some, map, filter, refl, sym, ap, subst, inl, inr, arith, slice_get}
+use Rattle.std.specs.List.{AllByRecursion, find}
 use Rattle.std.specs.Option.{option_map}
 use Rattle.std.proofs.Common.{cond, true≢false, nat_le, nat_lt, ◌&&◌, ◌||◌}
 use Rattle.std.proofs.lemmas.Bool.{cases_lt, cases_eq, lt-ltb, le-leb, ltb-true}
@@ -12,7 +12,7 @@ use Rattle.class_layout.specs.declared.kind.FieldAt.{FieldAt}
 use Rattle.class_layout.specs.declared.kind.FieldDecl.{FieldDecl}
 use Rattle.class_layout.specs.ClassList.{Class, layout_of}
 use Rattle.class_layout.specs.Kinds.{kind_bytes, next_multiple, first_element, array_end, is_ref}
-use Rattle.class_layout.specs.Layout.{Laid, Placed, bare, place_field, references}
+use Rattle.class_layout.specs.Layout.{Laid, Placed, place_field}
 use Rattle.class_layout.specs.Placing.{IsIn}
 use Rattle.heap_graph.specs.declared.names.Shape.{Shape}
 use Rattle.heap_graph.specs.declared.names.Shape.TheVariants.{Instance, Array}
@@ -76,10 +76,12 @@ elements-laid kind i zero = subst (λ k. first_element kind + i * kind_bytes kin
 elements-laid kind i (suc n) =
     let fits = element-fits kind i in
     let rest = elements-laid kind (i + 1) n in
-    let e : i + 1 + n ≡ i + suc n = omega arith in
-    (omega arith, fits.1,
-     laid-lower ((element kind i).offset + kind_bytes kind) (first_element kind + (i + 1) * kind_bytes kind) _ (elements_from kind (i + 1) n) fits.2
-     (subst (λ k. AreLaid (first_element kind + (i + 1) * kind_bytes kind) (first_element kind + k * kind_bytes kind) (elements_from kind (i + 1) n)) e rest))
+    let e : i + 1 + n ≡ i + suc n = omega arith in (
+      omega arith,
+      fits.1,
+      laid-lower ((element kind i).offset + kind_bytes kind) (first_element kind + (i + 1) * kind_bytes kind) _ (elements_from kind (i + 1) n) fits.2
+          (subst (λ k. AreLaid (first_element kind + (i + 1) * kind_bytes kind) (first_element kind + k * kind_bytes kind) (elements_from kind (i + 1) n)) e rest),
+    )
 
 first-low : (kind : Kind) → 12 ≤ first_element kind + 0 * kind_bytes kind
 first-low Ref = omega arith
@@ -126,17 +128,19 @@ laid-in low high (q ∷ ps) p laid (inr there) =
 pub all-laid : (P Q : FieldAt → Type 0) (low high : ℕ) (ps : List FieldAt) → AreLaid low high ps → AllByRecursion P ps
     → ((p : FieldAt) → low ≤ p.offset → p.offset + kind_bytes p.kind ≤ high → P p → Q p) → AllByRecursion Q ps
 all-laid P Q low high [] laid all step = tt
-all-laid P Q low high (p ∷ ps) laid all step =
-    (step p laid.0 (laid-le (p.offset + kind_bytes p.kind) high ps laid.2) all.0,
-     all-laid P Q (p.offset + kind_bytes p.kind) high ps laid.2 all.1 (λ q low' high' h. step q (omega (arith, laid.0)) high' h))
+all-laid P Q low high (p ∷ ps) laid all step = (
+  step p laid.0 (laid-le (p.offset + kind_bytes p.kind) high ps laid.2) all.0,
+  all-laid P Q (p.offset + kind_bytes p.kind) high ps laid.2 all.1 (λ q low' high' h. step q (omega (arith, laid.0)) high' h),
+)
 
 -- the same with nothing known of them before
 pub all-places : (Q : FieldAt → Type 0) (low high : ℕ) (ps : List FieldAt) → AreLaid low high ps
     → ((p : FieldAt) → low ≤ p.offset → p.offset + kind_bytes p.kind ≤ high → Q p) → AllByRecursion Q ps
 all-places Q low high [] laid step = tt
-all-places Q low high (p ∷ ps) laid step =
-    (step p laid.0 (laid-le (p.offset + kind_bytes p.kind) high ps laid.2),
-     all-places Q (p.offset + kind_bytes p.kind) high ps laid.2 (λ q low' high'. step q (omega (arith, laid.0)) high'))
+all-places Q low high (p ∷ ps) laid step = (
+  step p laid.0 (laid-le (p.offset + kind_bytes p.kind) high ps laid.2),
+  all-places Q (p.offset + kind_bytes p.kind) high ps laid.2 (λ q low' high'. step q (omega (arith, laid.0)) high'),
+)
 
 or-yes : (b : Bool) → (b || true) ≡ true
 or-yes true = refl

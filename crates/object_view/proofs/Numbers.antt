@@ -1,6 +1,6 @@
 -- Numbers in memory, as far as they follow from the bytes that they stand in.
-use Rattle.std.proofs.Common.{◌≡◌, ◌∙◌, ℕ, zero, suc, ◌+◌, ◌*◌, ◌/◌, ◌%◌, ◌^◌, ◌<◌, ◌≤◌, List, [], ◌∷◌, map, length, get_or, refl, sym, ap, subst, arith, true, Bool, pos}
-use Rattle.std.specs.Int.{w8, w16, w32, w64, from_le_bytes, to_le_bytes}
+use Rattle.std.proofs.Common.{◌≡◌, ◌∙◌, ℕ, zero, suc, ◌+◌, ◌*◌, ◌^◌, ◌<◌, ◌≤◌, List, ◌∷◌, map, get_or, refl, sym, ap, arith, true, pos}
+use Rattle.std.specs.Int.{w16, w32, w64, from_le_bytes, to_le_bytes}
 use Rattle.std.proofs.lemmas.Nat.{from_le_bytes-to_le_bytes_4}
 use Rattle.class_layout.specs.declared.kind.Kind.{Kind}
 use Rattle.class_layout.specs.declared.kind.Kind.TheVariants.{Ref, Boolean, Byte, Char, Short, Int, Long}
@@ -71,9 +71,10 @@ pub two-words : (v : View) (a low high : ℕ) → low < 2 ^ 32 → high < 2 ^ 32
 two-words v a low high small_low small_high is =
     let b : (i : ℕ) → i < 8 → v.byte (a + i) ≡ get_or (to_le_bytes w64 (low + high * 2 ^ 32)) i 0 = λ i below. byte-of v a (low + high * 2 ^ 32) i below is in
     let c : (i : ℕ) → i < 4 → v.byte (a + 4 + i) ≡ get_or (to_le_bytes w64 (low + high * 2 ^ 32)) (4 + i) 0 =
-    λ i below. ap v.byte (let e : a + 4 + i ≡ a + (4 + i) = omega arith in e) ∙ b (4 + i) (omega arith) in
-    (four-bytes v a low small_low (b 0 (omega arith) ∙ omega arith) (b 1 (omega arith) ∙ omega arith) (b 2 (omega arith) ∙ omega arith) (b 3 (omega arith) ∙ omega arith),
-     four-bytes v (a + 4) high small_high (c 0 (omega arith) ∙ omega arith) (c 1 (omega arith) ∙ omega arith) (c 2 (omega arith) ∙ omega arith) (c 3 (omega arith) ∙ omega arith))
+    λ i below. ap v.byte (let e : a + 4 + i ≡ a + (4 + i) = omega arith in e) ∙ b (4 + i) (omega arith) in (
+      four-bytes v a low small_low (b 0 (omega arith) ∙ omega arith) (b 1 (omega arith) ∙ omega arith) (b 2 (omega arith) ∙ omega arith) (b 3 (omega arith) ∙ omega arith),
+      four-bytes v (a + 4) high small_high (c 0 (omega arith) ∙ omega arith) (c 1 (omega arith) ∙ omega arith) (c 2 (omega arith) ∙ omega arith) (c 3 (omega arith) ∙ omega arith),
+    )
 
 -- the bytes of a small number that was written in eight
 pub one-word : (v : View) (a n : ℕ) → n < 2 ^ 32 → bytes_at v a 8 ≡ to_le_bytes w64 n → (u32_at v a ≡ n) × ((i : ℕ) → 4 ≤ i → i < 8 → v.byte (a + i) ≡ 0)

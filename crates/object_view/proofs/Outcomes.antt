@@ -1,6 +1,6 @@
 -- What holds of a call that succeeded, and of one that failed.
 use Rattle.std.specs.Prelude.{Result, Ok, Err, OnOk, OnErr, IsOk}
-use Rattle.std.proofs.Common.{◌≡◌, rules}
+use Rattle.std.proofs.Common.{rules}
 
 module _ {T E : Type 0} where
   -- two facts give a third

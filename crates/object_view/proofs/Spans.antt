@@ -1,11 +1,11 @@
 -- What writes of one page and of several words change among the pages.
-use Rattle.std.proofs.Common.{cond, ◌≡◌, ◌≢◌, ◌⊎◌, ◌∙◌, ℕ, zero, suc, ◌+◌, ◌*◌, ◌-◌, ◌/◌, ◌%◌, ◌<◌, ◌≤◌, Bool, true, false, List, [], ◌∷◌, Option, Some, None, refl, sym, ap, subst, inl, inr, arith, true≢false, IsTrue, nat_lt}
+use Rattle.std.proofs.Common.{cond, ◌≡◌, ◌≢◌, ◌⊎◌, ◌∙◌, ℕ, zero, suc, ◌+◌, ◌-◌, ◌%◌, ◌<◌, ◌≤◌, Bool, true, false, List, Option, Some, None, refl, sym, ap, subst, inl, inr, arith, true≢false, IsTrue}
 use Rattle.std.specs.Prelude.{option_map, Result, Ok, Err, OnOk, OnErr}
 use Rattle.std.proofs.lemmas.Bool.{cases_eq, cases_lt, lt-ltb, le-ltb}
-use Rattle.std.proofs.lemmas.Option.{same_Some, none-some}
+use Rattle.std.proofs.lemmas.Option.{same_Some}
 use Rattle.cow_pages.specs.Address.{page_of}
 use Rattle.cow_pages.specs.Memory.{Memory, Page, page_at, frame_at, is_live, is_written, flag_of, HasOneSharer, IsShared, IsFree, IsSound}
-use Rattle.cow_pages.specs.Change.{KeepsRoom, TakesFrame, TakesOnCopy, WritesPage}
+use Rattle.cow_pages.specs.Change.{KeepsRoom, TakesOnCopy, WritesPage}
 use Rattle.cow_pages.specs.View.{OthersSeen}
 use Rattle.cow_pages.proofs.ViewLemmas.{SameView-pages}
 use Rattle.object_view.specs.Changes.{pages_in, others_among, AreAlone, AreWritten, ChangesPages, WritesSpan}
@@ -160,9 +160,11 @@ module _ (m old : Memory) (t from to : ℕ) (s : WritesSpan m old t from to) whe
   ]
 
   shared-before : (p : ℕ) → page_of from + pages_in from to ≤ p → IsShared old t p → IsShared m t p
-  shared-before p behind shared =
-      (shared.0, shared.1,
-       sym (frame-same m old shared.0 shared.0 p p (s.pages.others shared.0 p (inl shared.1))) ∙ shared.2 ∙ frame-same m old t t p p (s.pages.others t p (inr (inr behind))))
+  shared-before p behind shared = (
+    shared.0,
+    shared.1,
+    sym (frame-same m old shared.0 shared.0 p p (s.pages.others shared.0 p (inl shared.1))) ∙ shared.2 ∙ frame-same m old t t p p (s.pages.others t p (inr (inr behind))),
+  )
 
 module _ (old new : Memory) (t at : ℕ) (bytes : List ℕ) (w : WritesPage old new t at bytes) where
   frame-there : frame_at new t (page_of at) ≡ Some w.frame

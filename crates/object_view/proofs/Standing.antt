@@ -1,12 +1,12 @@
 -- Objects that stand, and what a change of memory leaves of them.
-use Rattle.std.proofs.Common.{cond, ◌≡◌, ◌≢◌, ◌⊎◌, ◌∙◌, ℕ, zero, suc, ◌+◌, ◌*◌, ◌%◌, ◌^◌, ◌<◌, ◌≤◌, Bool, true, false, List, [], ◌∷◌, refl, sym, ap, subst, inl, inr, arith, ℤ, pos}
+use Rattle.std.proofs.Common.{cond, ◌≡◌, ◌⊎◌, ◌∙◌, ℕ, ◌+◌, ◌%◌, ◌^◌, ◌<◌, ◌≤◌, List, [], ◌∷◌, refl, sym, ap, subst, inl, inr, arith, ℤ}
 use Rattle.std.specs.List.{AllByRecursion}
 use Rattle.std.proofs.lemmas.Bool.{eq-eqb, ne_eqb}
 use Rattle.class_layout.specs.Placing.{IsIn}
 use Rattle.cow_pages.specs.declared.address.Addr.{Addr}
-use Rattle.object_view.specs.declared.names.Header.TheVariants.{Number, Forward}
+use Rattle.object_view.specs.declared.names.Header.TheVariants.{Forward}
 use Rattle.class_layout.specs.declared.kind.Kind.{Kind}
-use Rattle.class_layout.specs.declared.kind.Kind.TheVariants.{Ref, Boolean, Byte, Char, Short, Int, Long}
+use Rattle.class_layout.specs.declared.kind.Kind.TheVariants.{Int}
 use Rattle.class_layout.specs.declared.kind.FieldAt.{FieldAt}
 use Rattle.class_layout.specs.ClassList.{Class}
 use Rattle.class_layout.specs.Kinds.{kind_bytes}

@@ -1,7 +1,7 @@
 -- What a write of a number is to the object that it lies in.
-use Rattle.std.proofs.Common.{◌≡◌, ◌≢◌, ◌⊎◌, ◌∙◌, ℕ, ◌+◌, List, [], ◌∷◌, length, Bool, true, false, true≢false, ◌&&◌, nat_le, ℤ, pos, to_z, of_z, refl, sym, ap, subst, arith, ◌≤◌, ◌<◌}
+use Rattle.std.proofs.Common.{◌≡◌, ◌≢◌, ◌⊎◌, ◌∙◌, ℕ, ◌+◌, List, [], ◌∷◌, length, Bool, true, false, true≢false, ◌&&◌, nat_le, ℤ, pos, to_z, of_z, refl, sym, ap, subst, arith}
 use Rattle.std.specs.Prelude.{Result, Ok, Err, OnOk, OnErr, IsOk}
-use Rattle.std.specs.Int.{Width, w8, w16, w32, w64, to_le_bytes}
+use Rattle.std.specs.Int.{Width, w8, w16, w32, w64}
 use mir.Val.{SFits}
 use Rattle.std.proofs.lemmas.Int.{to_z-of_z}
 use Rattle.std.proofs.lemmas.Bool.{leb-true}
@@ -20,8 +20,8 @@ use Rattle.class_layout.specs.Kinds.{kind_bytes}
 use Rattle.cow_pages.specs.Address.{page_of}
 use Rattle.cow_pages.specs.Memory.{Memory, HasOneSharer, IsShared, IsSound}
 use Rattle.cow_pages.specs.Change.{TakesOnCopy, WritesPage}
-use Rattle.cow_pages.specs.View.{View, bytes_at, view_of, OthersSeen, WritesBytes}
-use Rattle.object_view.specs.Changes.{AreWritten, ChangesWithin, PutsNumber, StoresNumber}
+use Rattle.cow_pages.specs.View.{View, view_of, WritesBytes}
+use Rattle.object_view.specs.Changes.{ChangesWithin, PutsNumber, StoresNumber}
 use Rattle.object_view.specs.Values.{is_value, number_at, number_of, value_of}
 use Rattle.object_view.proofs.Spans.{single-pages, OthersSeen-pages, AreWritten-write}
 use Rattle.object_view.proofs.Outcomes.{on_ok_both}

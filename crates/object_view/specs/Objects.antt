@@ -1,8 +1,7 @@
 -- What stands in memory for an object.
-use Rattle.std.specs.Prelude.{◌≡◌, ⊤, ℕ, zero, suc, ◌+◌, ◌*◌, ◌%◌, ◌^◌, ◌<◌, ◌≤◌, Bool, true, false, ◌&&◌, if◌then◌else◌, List, [], ◌∷◌, map, length, Option, Some, None, option_map, nat_le, nat_lt, slice_get, ℤ}
+use Rattle.std.specs.Prelude.{◌≡◌, ⊤, ℕ, zero, suc, ◌+◌, ◌*◌, ◌%◌, ◌^◌, ◌<◌, ◌≤◌, Bool, true, false, ◌&&◌, List, [], ◌∷◌, map, length, Option, Some, None, nat_le, nat_lt, slice_get, ℤ}
 use Rattle.std.specs.List.{list_any, AllByRecursion}
 use Rattle.class_layout.specs.declared.kind.Kind.{Kind}
-use Rattle.class_layout.specs.declared.kind.Kind.TheVariants.{Ref}
 use Rattle.class_layout.specs.declared.kind.FieldAt.{FieldAt}
 use Rattle.class_layout.specs.ClassList.{Class, layout_of}
 use Rattle.class_layout.specs.Kinds.{kind_bytes, first_element, is_ref}

@@ -47,12 +47,7 @@ pub fn read_header(frames: &mut Frames, t: TableNo, at: Addr) -> Header
 }
 
 /// Notes in an object's lock word where it went, `to`. Nothing else of it changes.
-pub fn set_forward(
-    frames: &mut Frames,
-    t: TableNo,
-    at: Addr,
-    to: Addr,
-) -> Result<(), AllocError>
+pub fn set_forward(frames: &mut Frames, t: TableNo, at: Addr, to: Addr) -> Result<(), AllocError>
     requires aligned { at.0 % 8 ≡ 0 }
     requires mapped { IsTrue (is_mapped frames.old t.0 (page_of at.0)) }
     requires multiple { to.0 % 8 ≡ 0 }

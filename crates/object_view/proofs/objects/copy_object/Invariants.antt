@@ -1,4 +1,4 @@
-use Rattle.std.proofs.Common.{ℕ, ◌<◌}
+use Rattle.std.proofs.Common.{◌<◌}
 use Rattle.cow_pages.specs.Memory.{IsSound}
 use Rattle.object_view.proofs.Copies.{IsCopying}
 use Rattle.object_view.proofs.objects.copy_object.Given as goal

@@ -1,14 +1,12 @@
-use Rattle.std.proofs.Common.{rules, ◌≡◌, ◌∙◌, ℕ, ◌+◌, ◌<◌, ◌^◌, Option, Some, IsTrue, sym, ap, subst, arith}
+use Rattle.std.proofs.Common.{rules, ◌≡◌, ◌∙◌, ◌+◌, ◌<◌, ◌^◌, IsTrue, sym, ap, subst}
 use Rattle.std.specs.Prelude.{option_map}
 use Rattle.cow_pages.specs.Address.{page_of}
 use Rattle.cow_pages.specs.Memory.{Memory, is_mapped}
 use Rattle.cow_pages.specs.View.{u32_at, view_of}
 use Rattle.heap_graph.specs.declared.names.Shape.{Shape}
-use Rattle.object_view.specs.declared.names.Slot.{Slot}
 use Rattle.object_view.specs.Objects.{reference_place, slot_at, IsObject}
-use Rattle.object_view.proofs.Lookups.{found-slot, slot-is, u32-later, Found}
+use Rattle.object_view.proofs.Lookups.{found-slot, slot-is, u32-later}
 use Rattle.object_view.proofs.objects.ref_slot.Goals as goal
-
 
 pub overflow_add-at : goal.overflow_add-at
 overflow_add-at c =

@@ -1,11 +1,10 @@
-use Rattle.std.proofs.Common.{rules, ◌≡◌, ◌∙◌, ℕ, ◌+◌, ◌*◌, ◌%◌, ◌^◌, ◌<◌, ◌≤◌, sym, ap, subst, arith}
+use Rattle.std.proofs.Common.{rules, ◌≡◌, ◌∙◌, ◌+◌, ◌*◌, ◌^◌, sym, ap, subst, arith}
 use Rattle.std.specs.Int.{w64, to_le_bytes}
 use Rattle.cow_pages.specs.Memory.{Memory}
 use Rattle.cow_pages.specs.View.{bytes_at, view_of, WritesBytes}
-use Rattle.heap_graph.specs.Sizes.{size_in}
 use Rattle.object_view.specs.declared.names.Header.TheVariants.{Number}
 use Rattle.object_view.specs.Changes.{WritesWords}
-use Rattle.object_view.specs.Words.{class_word, head_end, lock_word}
+use Rattle.object_view.specs.Words.{class_word, lock_word}
 use Rattle.object_view.proofs.Laid.{size-bounds}
 use Rattle.object_view.proofs.Outcomes.{on_err}
 use Rattle.object_view.proofs.Heads.{array-end, first-words, instance-end, never-fails, words-array, words-instance, WritesWords-none, WritesWords-step}
@@ -35,10 +34,12 @@ returns-in_err-write_word-in-Array-clause-some c =
     let none = WritesWords-none old c.args.t.0 c.args.at.0 in
     let size = size-bounds c.args.classes.now c.args.shape in
     let same : c.write_word-in-Array.new.frames ≡ c.write_word.new.frames = c.in_err-write_word-in-Array.ensures.err in
-    on_err c.from_residual-in_err-write_word-in-Array.result
-    (1, omega (arith, size.0, size.1, size.2),
-     subst (λ (n : Memory). WritesWords old n c.args.t.0 c.args.at.0 1) (sym same)
-     (WritesWords-step old old c.write_word.new.frames c.args.t.0 c.args.at.0 0 c.head_of.result none c.in_ok-write_word.ensures.bytes (c.in_ok-write_word.ensures.span old none.span)))
+    on_err c.from_residual-in_err-write_word-in-Array.result (
+      1,
+      omega (arith, size.0, size.1, size.2),
+      subst (λ (n : Memory). WritesWords old n c.args.t.0 c.args.at.0 1) (sym same)
+          (WritesWords-step old old c.write_word.new.frames c.args.t.0 c.args.at.0 0 c.head_of.result none c.in_ok-write_word.ensures.bytes (c.in_ok-write_word.ensures.span old none.span)),
+    )
 
 pub returns-in_err-write_word-in-Array-clause-only : goal.returns-in_err-write_word-in-Array-clause-only
 returns-in_err-write_word-in-Array-clause-only c =
@@ -48,7 +49,7 @@ returns-in_err-write_word-in-Array-clause-only c =
     let end = array-end c.args.shape c.in-Array.kind c.in-Array.count c.in-Array.is in
     on_err c.from_residual-in_err-write_word-in-Array.result (λ alone.
     never-fails old c.write_word.new.frames c.args.t.0 c.args.at.0 1 c.args.classes.now c.args.shape c.requires.aligned (omega (arith, size.0, size.1, size.3, end)) (c.in_ok-write_word.ensures.span old none.span) alone
-        c.in_err-write_word-in-Array.ensures.only)
+    c.in_err-write_word-in-Array.ensures.only)
 
 pub returns-in-Instance-clause-head : goal.returns-in-Instance-clause-head
 returns-in-Instance-clause-head c =
@@ -63,9 +64,11 @@ returns-in-Instance-clause-all c =
     let old = c.args.frames.now in
     let none = WritesWords-none old c.args.t.0 c.args.at.0 in
     let size = size-bounds c.args.classes.now c.args.shape in
-    let end = instance-end c.args.shape c.in-Instance.field-0 c.in-Instance.is in
-    (omega (arith, end), omega (arith, size.0, size.1, size.2),
-     WritesWords-step old old c.write_word.new.frames c.args.t.0 c.args.at.0 0 c.head_of.result none c.in_ok-write_word.ensures.bytes (c.in_ok-write_word.ensures.span old none.span))
+    let end = instance-end c.args.shape c.in-Instance.field-0 c.in-Instance.is in (
+      omega (arith, end),
+      omega (arith, size.0, size.1, size.2),
+      WritesWords-step old old c.write_word.new.frames c.args.t.0 c.args.at.0 0 c.head_of.result none c.in_ok-write_word.ensures.bytes (c.in_ok-write_word.ensures.span old none.span),
+    )
 
 pub returns-in_ok-write_word-in-Array-clause-head : goal.returns-in_ok-write_word-in-Array-clause-head
 returns-in_ok-write_word-in-Array-clause-head c =
@@ -84,6 +87,8 @@ returns-in_ok-write_word-in-Array-clause-all c =
     let none = WritesWords-none old c.args.t.0 c.args.at.0 in
     let size = size-bounds c.args.classes.now c.args.shape in
     let end = array-end c.args.shape c.in-Array.kind c.in-Array.count c.in-Array.is in
-    let one = WritesWords-step old old c.write_word.new.frames c.args.t.0 c.args.at.0 0 c.head_of.result none c.in_ok-write_word.ensures.bytes (c.in_ok-write_word.ensures.span old none.span) in
-    (omega (arith, end), omega (arith, size.0, size.1, size.3, end),
-     WritesWords-step old c.write_word.new.frames c.write_word-in-Array.new.frames c.args.t.0 c.args.at.0 1 c.from.result one c.in_ok-write_word-in-Array.ensures.bytes (c.in_ok-write_word-in-Array.ensures.span old one.span))
+    let one = WritesWords-step old old c.write_word.new.frames c.args.t.0 c.args.at.0 0 c.head_of.result none c.in_ok-write_word.ensures.bytes (c.in_ok-write_word.ensures.span old none.span) in (
+      omega (arith, end),
+      omega (arith, size.0, size.1, size.3, end),
+      WritesWords-step old c.write_word.new.frames c.write_word-in-Array.new.frames c.args.t.0 c.args.at.0 1 c.from.result one c.in_ok-write_word-in-Array.ensures.bytes (c.in_ok-write_word-in-Array.ensures.span old one.span),
+    )

@@ -1,12 +1,11 @@
-use Rattle.std.proofs.Common.{◌≡◌, ◌∙◌, ℕ, ◌+◌, ◌*◌, ◌/◌, ◌%◌, ◌≤◌, sym, ap, subst, arith, rules}
-use Rattle.std.specs.Prelude.{OnErr, OnOk}
+use Rattle.std.proofs.Common.{◌≡◌, ℕ, ◌+◌, ◌*◌, ◌/◌, ◌≤◌, sym, subst, arith}
 use Rattle.std.proofs.lemmas.Result.{on_err_weaker, on_ok_weaker}
 use Rattle.cow_pages.specs.Address.{page_of}
 use Rattle.cow_pages.specs.Memory.{Memory}
-use Rattle.cow_pages.specs.View.{byte_at, view_of}
+use Rattle.cow_pages.specs.View.{view_of}
 use Rattle.heap_graph.specs.Sizes.{size_in}
 use Rattle.object_view.specs.declared.names.Header.TheVariants.{Number}
-use Rattle.object_view.specs.Changes.{pages_in, AreAlone, AreWritten, ChangesPages, ChangesWithin, WritesSpan, WritesWords}
+use Rattle.object_view.specs.Changes.{pages_in, AreAlone, ChangesPages, WritesSpan, WritesWords}
 use Rattle.object_view.proofs.Laid.{size-bounds}
 use Rattle.object_view.proofs.Outcomes.{either, is_ok_unless}
 use Rattle.object_view.proofs.Spans.{OthersSeen-pages}

@@ -1,4 +1,4 @@
-use Rattle.std.proofs.Common.{◌≡◌, ℕ, ◌+◌, ◌*◌, ◌%◌, ◌≤◌, sym, subst, arith}
+use Rattle.std.proofs.Common.{◌≡◌, ℕ, ◌+◌, ◌*◌, ◌≤◌, sym, subst, arith}
 use Rattle.cow_pages.specs.Address.{page_of}
 use Rattle.cow_pages.specs.Memory.{Memory}
 use Rattle.object_view.specs.Changes.{pages_in, ChangesPages, WritesSpan}
@@ -21,8 +21,8 @@ returns-in_err-write_word-clause-only c =
     let at = c.args.at.0 in
     on_err c.from_residual.result (λ m s alone.
     not-shared c.loop-i.frames c.args.t.0 (page_of (at + 8 * c.loop-i.i))
-        (alone-next m c.loop-i.frames c.args.t.0 at (8 * c.loop-i.i) (8 * c.args.words) c.requires.aligned (omega arith) (omega arith) (c.loop-i.invariant.span m s) alone)
-        c.in_err-write_word.ensures.only)
+    (alone-next m c.loop-i.frames c.args.t.0 at (8 * c.loop-i.i) (8 * c.args.words) c.requires.aligned (omega arith) (omega arith) (c.loop-i.invariant.span m s) alone)
+    c.in_err-write_word.ensures.only)
 
 pub returns-clause-span : goal.returns-clause-span
 returns-clause-span c m s =
