@@ -19,11 +19,7 @@ fn buffer(alloc: Global, bytes: usize) -> Result<Vec<u8>, AllocError>
 }
 
 /// Takes bytes behind those of a text, and tells whether there may be more.
-fn take_piece<S: Source>(
-    source: &mut S,
-    buf: &mut [u8],
-    text: &mut Vec<u8>,
-) -> Result<bool, Stop>
+fn take_piece<S: Source>(source: &mut S, buf: &mut [u8], text: &mut Vec<u8>) -> Result<bool, Stop>
     requires room { 0 < length buf.old }
     requires fits { length text.old.items ≤ input_limit }
     ensures took { MatchResult result

@@ -1,6 +1,7 @@
 //! The top call: a script from its bytes to its report.
 #![tactic(auto)]
 
+mod examples;
 mod input;
 mod run;
 mod status;
@@ -11,3 +12,7 @@ pub use plain_machine::Machine;
 pub use status::Status;
 pub use top::artheap;
 
+#[cfg(test)]
+mod rows;
+#[cfg(test)]
+mod tests;

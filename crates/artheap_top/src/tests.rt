@@ -1,0 +1,158 @@
+use crate::rows::ROWS;
+use crate::{Machine, Status, artheap};
+use ah_outside::{MemorySink, MemorySource, SoundShelf};
+use class_layout::Name;
+use heap_world::{Command, Refusal, Reply, Verb};
+use std::alloc::{AllocError, Global};
+use std::test::Fail;
+
+const THREE_LINES: &[u8] =
+    b"zygote class P java.lang.Object x:int\nzygote new a P\nzygote get a x\n";
+
+/// Calls `artheap` with words over forms in memory.
+fn call(
+    alloc: Global,
+    words: &[&str],
+    source: &mut MemorySource,
+    sink: &mut MemorySink,
+) -> Result<Status, AllocError> {
+    let mut shelf = SoundShelf::new();
+    let mut machine = Machine::new(alloc);
+    let mut owned = Vec::new(alloc);
+    for word in words {
+        owned.push(String::from_str(alloc, word)?)?;
+    }
+    Ok(artheap(
+        alloc,
+        owned.as_slice(),
+        source,
+        sink,
+        &mut shelf,
+        &mut machine,
+    ))
+}
+
+#[test]
+fn scripts_give_their_reports(rt: HostRuntime) -> Result<(), Fail> {
+    let alloc = rt.alloc();
+    for row in &ROWS {
+        let mut source = MemorySource::new(alloc, row.script, 7, &[])?;
+        let mut sink = MemorySink::new(alloc, 10_000, &[])?;
+        let words = ["run", "--regions", row.regions];
+        assert_eq!(rt; call(alloc, &words, &mut source, &mut sink)?, row.status);
+        assert_eq!(rt; sink.bytes(), row.report);
+        assert_eq!(rt; source.left().len(), 0);
+    }
+    Ok(())
+}
+
+#[test]
+fn words_faults_and_limits_have_their_status(rt: HostRuntime) -> Result<(), Fail> {
+    let alloc = rt.alloc();
+    let mut long = vec![in alloc; b'#'; 4_096]?;
+    long.push(b'\n')?;
+    for _ in 0..4_097 {
+        long.push(b'#')?;
+    }
+    let cases: [(&[&str], &[u8], &[u64], &[u64], &[u8], Status); 13] = [
+        (&["run"], b"", &[], &[], b"", Status::Ok),
+        (&["run"], THREE_LINES, &[1], &[], b"", Status::ReadFault),
+        (&["run"], THREE_LINES, &[2], &[], b"", Status::ReadFault),
+        (
+            &["run"],
+            THREE_LINES,
+            &[],
+            &[2],
+            b"1: class 2\n",
+            Status::WriteFault,
+        ),
+        (
+            &["run"],
+            long.as_slice(),
+            &[],
+            &[],
+            b"2: E2 line too long\n",
+            Status::Refused,
+        ),
+        (&["run", "--regions", "512"], b"", &[], &[], b"", Status::Ok),
+        (
+            &["run", "--regions", "0"],
+            b"",
+            &[1],
+            &[],
+            b"",
+            Status::Usage,
+        ),
+        (
+            &["run", "--regions", "513"],
+            b"",
+            &[1],
+            &[],
+            b"",
+            Status::Usage,
+        ),
+        (
+            &["run", "--regions", "+1"],
+            b"",
+            &[1],
+            &[],
+            b"",
+            Status::Usage,
+        ),
+        (
+            &["run", "--regions", "01"],
+            b"",
+            &[1],
+            &[],
+            b"",
+            Status::Usage,
+        ),
+        (
+            &["run", "--regions", "1", "--regions", "1"],
+            b"",
+            &[1],
+            &[],
+            b"",
+            Status::Usage,
+        ),
+        (&["walk"], THREE_LINES, &[1], &[1], b"", Status::Usage),
+        (&[], THREE_LINES, &[1], &[1], b"", Status::Usage),
+    ];
+    for (words, script, takes, puts, report, status) in cases {
+        let mut source = MemorySource::new(alloc, script, 100_000, takes)?;
+        let mut sink = MemorySink::new(alloc, 1000, puts)?;
+        assert_eq!(rt; call(alloc, words, &mut source, &mut sink)?, status);
+        assert_eq!(rt; sink.bytes(), report);
+    }
+    Ok(())
+}
+
+/// A command that makes an object of class 0.
+fn make(name: &[u8]) -> Command {
+    Command {
+        process: Name::of(b"zygote").unwrap(),
+        verb: Verb::New {
+            root: Name::of(name).unwrap(),
+            class: Name::of(b"java.lang.Object").unwrap(),
+        },
+    }
+}
+
+#[test]
+fn numbers_end(rt: HostRuntime) -> Result<(), Fail> {
+    let mut machine = Machine::new(rt.alloc());
+    machine.prepare(64, 268_435_455)?;
+    let first = machine.step(1, &make(b"a"))?;
+    assert!(rt;
+        matches!(
+            first,
+            Reply::Made {
+                number: 268_435_455,
+                collected: false
+            }
+        )
+    );
+    let second = machine.step(2, &make(b"b"))?;
+    assert!(rt; matches!(second, Reply::Refused(Refusal::NumberLimit)));
+    Ok(())
+}
