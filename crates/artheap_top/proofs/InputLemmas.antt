@@ -1,9 +1,9 @@
 -- What was taken before a stop, and what the last take gave.
-use Rattle.std.proofs.Common.{◌≡◌, ℕ, ◌≤◌, List, [], ◌++◌, Option, length, arith}
+use Rattle.std.proofs.Common.{◌≡◌, ℕ, ◌≤◌, List, [], ◌++◌, ◌<◌, Option, None, Some, ap, length, length-append, arith}
 use Rattle.ah_outside.specs.Outside.{Gave}
 use Rattle.artheap_top.specs.declared.run.Stop.{Stop}
 use Rattle.artheap_top.specs.declared.run.Stop.TheVariants.{Read, Write, Memory, TooLong}
-use Rattle.artheap_top.specs.Ends.{StoppedTaking}
+use Rattle.artheap_top.specs.Ends.{HasFewLeft, StoppedTaking, TookMany, input_limit}
 use Rattle.artheap_top.proofs.Outside.{Gave-more}
 use Rattle.artheap_top.proofs.RunLemmas.{FaultRose-earlier}
 
@@ -16,3 +16,15 @@ stopped_taking Write left mid left' text f m f' gave a b h = absurd h
 stopped_taking Memory left mid left' text f m f' gave a b h = tt
 stopped_taking TooLong left mid left' text f m f' gave a b h =
     record { bytes = text ++ h.bytes; gave = Gave-more left text mid h.bytes left' gave h.gave; too_many = h.too_many }
+
+few_length : (bytes rest text : List ℕ) → text ≡ bytes ++ rest → length text ≤ input_limit → input_limit < length bytes → ⊥
+few_length bytes rest text is few many = omega (arith, ap length is, length-append bytes rest, few, many)
+
+few_given : (left left' : Option (List ℕ)) (bytes : List ℕ) → HasFewLeft left → Gave left bytes left' → input_limit < length bytes → ⊥
+few_given None left' bytes few gave many = absurd few
+few_given (Some text) None bytes few gave many = absurd (cc (gave))
+few_given (Some text) (Some rest) bytes few gave many = let is : text ≡ bytes ++ rest = cc (gave) in few_length bytes rest text is few many
+
+-- no source that has few bytes left gives too many
+pub few_left : (left left' : Option (List ℕ)) → HasFewLeft left → TookMany left left' [] → ⊥
+few_left left left' few took = few_given left left' took.bytes few took.gave took.too_many

@@ -1,7 +1,9 @@
 -- How a run may end, and what it leaves.
-use Rattle.std.specs.Prelude.{◌≡◌, ℕ, ◌+◌, ◌<◌, ◌≤◌, Bool, true, false, List, [], ◌++◌, Option, IfSome, length}
+use Rattle.std.specs.Prelude.{◌≡◌, ℕ, ◌+◌, ◌<◌, ◌≤◌, Bool, true, false, List, [], ◌++◌, Option, IfSome, IsSomeAnd, length}
 use Rattle.ah_outside.specs.Outside.{FaultRose, Gave, Gained, GainedPrefix}
 use Rattle.artheap_top.specs.declared.run.Stop.{Stop}
+use Rattle.artheap_top.specs.declared.status.Status.{Status}
+use Rattle.artheap_top.specs.declared.status.Status.TheVariants as status
 use Rattle.artheap_top.specs.declared.run.Stop.TheVariants.{Read, Write, Memory, TooLong}
 use Rattle.heap_world.specs.Run.{Answer}
 use Rattle.heap_world.specs.World.{World, first_world}
@@ -11,6 +13,22 @@ use Rattle.artheap_top.specs.Report.{answers, report, report_of, has_refusal, la
 -- the greatest length of an input, in bytes
 abbrev pub input_limit : ℕ
 input_limit = 268435456
+
+-- what the source has left is no longer than an input may be, where the source tells it
+abbrev pub HasFewLeft : Option (List ℕ) → Type 0
+HasFewLeft left = IsSomeAnd left (λ text. length text ≤ input_limit)
+
+-- the answers of a run that was neither refused for its words nor stopped by a fault or by its input's length
+abbrev pub EndsWell : Status → Type 0
+EndsWell status.Ok = Unit {0}
+EndsWell status.Refused = Unit {0}
+EndsWell status.Usage = ⊥
+EndsWell status.ReadFault = ⊥
+EndsWell status.WriteFault = ⊥
+EndsWell status.OutOfMemory = Unit {0}
+EndsWell status.ShelfFault = ⊥
+EndsWell status.NotDump = ⊥
+EndsWell status.TooLong = ⊥
 
 -- the whole input was taken, and is this text
 pub record TookAll (left left' : Option (List ℕ)) (text : List ℕ) : Type 0 where

@@ -91,6 +91,11 @@ fn bad_lines()
         ≡ codes "1: E1 bad line\n2: E1 bad line\n3: E1 bad line\n" }
 {}
 
+fn shared_image()
+    ensures { report 64 (codes "zygote class P java.lang.Object x:int\nzygote new a P\n\nzygote frames\nzygote set a x 1\nzygote pages\nzygote seal\nzygote fork c\nc set a x 1\r\nc pages\n# a comment\nc frames\n")
+        ≡ codes "1: class 2\n2: #1\n4: frames 1\n5: ok\n6: image 1 0 zygote 0 0 large 0 0\n7: ok\n8: ok\n9: ok\n10: image 1 1 zygote 0 0 large 0 0\n12: frames 2\n" }
+{}
+
 fn two_children()
     ensures { report 64 (codes "zygote class P java.lang.Object x:int\nzygote seal\nzygote new a P\nzygote set a x 7\nzygote fork c1\nzygote fork c2\nc1 set a x 1\nc2 set a x 2\nc1 get a x\nc2 get a x\n")
         ≡ codes "1: class 2\n2: ok\n3: #1\n4: ok\n5: ok\n6: ok\n7: ok\n8: ok\n9: 1\n10: 2\n" }

@@ -9,7 +9,7 @@ pub(crate) struct Row {
     pub(crate) status: Status,
 }
 
-pub(crate) const ROWS: [Row; 19] = [
+pub(crate) const ROWS: [Row; 24] = [
     // first lines
     Row {
         regions: "64",
@@ -129,14 +129,49 @@ pub(crate) const ROWS: [Row; 19] = [
         report: b"1: E1 bad line\n2: E1 bad line\n3: E1 bad line\n",
         status: Status::Refused,
     },
-    // two children
+    // shared image
+    Row {
+        regions: "64",
+        script: b"zygote class P java.lang.Object x:int\nzygote new a P\n\nzygote frames\nzygote set a x 1\nzygote pages\nzygote seal\nzygote fork c\nc set a x 1\r\nc pages\n# a comment\nc frames\n",
+        report: b"1: class 2\n2: #1\n4: frames 1\n5: ok\n6: image 1 0 zygote 0 0 large 0 0\n7: ok\n8: ok\n9: ok\n10: image 1 1 zygote 0 0 large 0 0\n12: frames 2\n",
+        status: Status::Ok,
+    },
+    // two children in order 0
+    Row {
+        regions: "64",
+        script: b"zygote class P java.lang.Object x:int\nzygote seal\nzygote new a P\nzygote set a x 7\nzygote fork c1\nzygote fork c2\nc1 set a x 1\nc1 get a x\nc2 set a x 2\nc2 get a x\n",
+        report: b"1: class 2\n2: ok\n3: #1\n4: ok\n5: ok\n6: ok\n7: ok\n8: 1\n9: ok\n10: 2\n",
+        status: Status::Ok,
+    },
+    // two children in order 1
     Row {
         regions: "64",
         script: b"zygote class P java.lang.Object x:int\nzygote seal\nzygote new a P\nzygote set a x 7\nzygote fork c1\nzygote fork c2\nc1 set a x 1\nc2 set a x 2\nc1 get a x\nc2 get a x\n",
         report: b"1: class 2\n2: ok\n3: #1\n4: ok\n5: ok\n6: ok\n7: ok\n8: ok\n9: 1\n10: 2\n",
         status: Status::Ok,
     },
-    // two children by turns
+    // two children in order 2
+    Row {
+        regions: "64",
+        script: b"zygote class P java.lang.Object x:int\nzygote seal\nzygote new a P\nzygote set a x 7\nzygote fork c1\nzygote fork c2\nc1 set a x 1\nc2 set a x 2\nc2 get a x\nc1 get a x\n",
+        report: b"1: class 2\n2: ok\n3: #1\n4: ok\n5: ok\n6: ok\n7: ok\n8: ok\n9: 2\n10: 1\n",
+        status: Status::Ok,
+    },
+    // two children in order 3
+    Row {
+        regions: "64",
+        script: b"zygote class P java.lang.Object x:int\nzygote seal\nzygote new a P\nzygote set a x 7\nzygote fork c1\nzygote fork c2\nc2 set a x 2\nc1 set a x 1\nc1 get a x\nc2 get a x\n",
+        report: b"1: class 2\n2: ok\n3: #1\n4: ok\n5: ok\n6: ok\n7: ok\n8: ok\n9: 1\n10: 2\n",
+        status: Status::Ok,
+    },
+    // two children in order 4
+    Row {
+        regions: "64",
+        script: b"zygote class P java.lang.Object x:int\nzygote seal\nzygote new a P\nzygote set a x 7\nzygote fork c1\nzygote fork c2\nc2 set a x 2\nc1 set a x 1\nc2 get a x\nc1 get a x\n",
+        report: b"1: class 2\n2: ok\n3: #1\n4: ok\n5: ok\n6: ok\n7: ok\n8: ok\n9: 2\n10: 1\n",
+        status: Status::Ok,
+    },
+    // two children in order 5
     Row {
         regions: "64",
         script: b"zygote class P java.lang.Object x:int\nzygote seal\nzygote new a P\nzygote set a x 7\nzygote fork c1\nzygote fork c2\nc2 set a x 2\nc2 get a x\nc1 set a x 1\nc1 get a x\n",

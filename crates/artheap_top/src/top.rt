@@ -2,7 +2,7 @@ ghost use Rattle.std.specs.Prelude.{◌≡◌, ◌≢◌, ◌↔◌, ◌≤◌, 
 ghost use Rattle.ah_outside.specs.Outside.{FaultRose};
 ghost use Rattle.heap_world.specs.World.{empty_world};
 ghost use Rattle.plain_machine.specs.Worlds.{StandsFor};
-ghost use Rattle.artheap_top.specs.Ends.{RanToEnd, RanInPart, TookSome, TookTooMany, Stopped};
+ghost use Rattle.artheap_top.specs.Ends.{EndsWell, HasFewLeft, RanToEnd, RanInPart, TookSome, TookTooMany, Stopped};
 ghost use Rattle.artheap_top.specs.Words.{run_regions};
 
 use crate::input::take_input;
@@ -38,6 +38,7 @@ fn run<S: Source, W: Sink>(
 /// sink. N is the budget of each process in regions, 1 to 512, and 64 if it isn't given.
 ///
 /// The machine is new, and at the end of a run stands for the world that the script made.
+#[tactic(auto, using(crate::proofs::InputLemmas::few_left))]
 pub fn artheap<S: Source, W: Sink, F: Shelf>(
     alloc: Global,
     words: &[String],
@@ -63,6 +64,10 @@ pub fn artheap<S: Source, W: Sink, F: Shelf>(
 
     // More bytes were taken than are allowed.
     ensures too_long { (regions : ℕ) → run_regions (map string_bytes words.now) ≡ Some regions → result ≡ Status.TooLong → TookTooMany regions (S.left source.old) (S.left source.new) (W.gained sink.old) (W.gained sink.new) machine.new }
+
+    // With words that have the form, an input within the limit and no fault, only want of memory stops a run.
+    ensures complete { run_regions (map string_bytes words.now) ≢ None → HasFewLeft (S.left source.old) →
+        ¬ FaultRose (S.fault_count source.old) (S.fault_count source.new) → ¬ FaultRose (W.fault_count sink.old) (W.fault_count sink.new) → EndsWell result }
 
     // No count of faults falls.
     ensures source_faults { S.fault_count source.old ≤ S.fault_count source.new }

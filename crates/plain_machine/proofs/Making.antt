@@ -7,7 +7,7 @@ use Rattle.heap_graph.specs.Allocation.{Allocated, has_room, make, make_by, make
 use Rattle.heap_graph.specs.Allocation as allocated
 use Rattle.heap_graph.specs.Collection.{collect}
 use Rattle.heap_graph.specs.Graph.{Graph, image_fill}
-use Rattle.heap_graph.specs.Packing.{after, end_of, free, place, place_if, used}
+use Rattle.heap_graph.specs.Packing.{end_of, free, place, place_if}
 use Rattle.heap_graph.specs.Sizes.{image_bytes, is_large, is_primitive_array, is_too_large, most_bytes, region_bytes, size_in, unrounded}
 
 module _ (g : Graph) (shape : Shape) (slots : List Stored) where

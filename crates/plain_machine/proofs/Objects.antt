@@ -1,5 +1,5 @@
 -- What holds of the objects that a number finds.
-use Rattle.std.proofs.Common.{◌≡◌, ℕ, Bool, true, false, cond, List, [], ◌∷◌, Option, Some, None, refl, sym, subst, ap}
+use Rattle.std.proofs.Common.{◌≡◌, ℕ, Bool, true, false, cond, List, [], ◌∷◌, Some, subst}
 use Rattle.std.specs.List.{find}
 use Rattle.class_layout.specs.ClassList.{Class}
 use Rattle.heap_graph.specs.Graph.{Graph, Object, object_at}

@@ -1,5 +1,5 @@
 -- Commands by whether they look beyond their process: a fork, and the count of frames.
-use Rattle.std.proofs.Common.{◌≡◌, ℕ, List, Option, None, Some, true, false, ap, refl}
+use Rattle.std.proofs.Common.{◌≡◌, ℕ, List, None, Some, true, false, ap, refl}
 use Rattle.heap_world.specs.declared.command.Verb.{Verb}
 use Rattle.heap_world.specs.declared.command.Verb.TheVariants as verb
 use Rattle.heap_world.specs.declared.reply.Reply.TheVariants as reply

@@ -1,11 +1,11 @@
 -- Processes by place and by name: one put in another's place, and one more.
-use Rattle.std.proofs.Common.{◌≡◌, ℕ, zero, suc, ◌+◌, ◌<◌, ◌≤◌, Bool, true, false, cond, ◌||◌, List, [], ◌∷◌, ◌++◌, Option, Some, None, map, set, length, nat_lt, slice_index_or, unwrap_or, IfSome, refl, sym, subst, ap, ◌∙◌, arith}
-use Rattle.std.specs.List.{list_any, position, position_or_len, slice_get}
+use Rattle.std.proofs.Common.{◌≡◌, ℕ, zero, suc, ◌<◌, ◌≤◌, Bool, true, false, cond, ◌||◌, List, [], ◌∷◌, ◌++◌, Option, Some, None, set, length, nat_lt, slice_index_or, unwrap_or, IfSome, refl, sym, subst, ap, ◌∙◌, arith}
+use Rattle.std.specs.List.{position, position_or_len, slice_get}
 use Rattle.std.proofs.lemmas.Bool.{ltb-false, ltb-true}
 use Rattle.std.proofs.lemmas.List.{map-append}
 use Rattle.std.proofs.lemmas.List.Folds.{find_at}
 use Rattle.class_layout.specs.Names.{same_name}
-use Rattle.class_layout.proofs.Uniqueness.{names-same, same_name-refl}
+use Rattle.class_layout.proofs.Uniqueness.{same_name-refl}
 use Rattle.heap_world.specs.declared.names.Label.{Label}
 use Rattle.heap_world.specs.Part.{Part}
 use Rattle.heap_world.specs.Sound.{IsSound}

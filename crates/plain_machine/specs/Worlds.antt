@@ -1,5 +1,5 @@
 -- What holds of all processes of a machine, and what a machine stands for.
-use Rattle.std.specs.Prelude.{◌≡◌, ℕ, Bool, false, List, [], ◌∷◌, Option, None, Some, codes}
+use Rattle.std.specs.Prelude.{◌≡◌, ℕ, false, List, [], ◌∷◌, Option, None, Some, codes}
 use Rattle.std.specs.List.{list_any}
 use Rattle.class_layout.specs.Names.{same_name}
 use Rattle.heap_world.specs.declared.command.Verb.{Verb}

@@ -1,7 +1,6 @@
 use Rattle.std.proofs.Common.{◌≡◌, false, subst, sym}
 use Rattle.std.specs.List.{list_any}
 use Rattle.class_layout.specs.Names.{same_name}
-use Rattle.heap_world.specs.World.{World}
 use Rattle.plain_machine.proofs.Worlds.{possible_more}
 use Rattle.plain_machine.specs.Worlds.{ArePossible}
 use Rattle.plain_machine.proofs.machine.Machine.add.Goals as goal

@@ -1,4 +1,4 @@
-use Rattle.std.proofs.Common.{◌≡◌, ◌∙◌, [], ◌∷◌, ap, refl, rules, subst, sym}
+use Rattle.std.proofs.Common.{◌≡◌, ◌∙◌, [], ◌∷◌, ap, refl, subst, sym}
 use Rattle.plain_machine.specs.Worlds.{ArePossible, first_process}
 use Rattle.plain_machine.proofs.machine.Machine.prepare.Goals as goal
 

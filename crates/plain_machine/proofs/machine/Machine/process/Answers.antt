@@ -1,5 +1,4 @@
 use Rattle.std.proofs.Common.{◌≡◌, ◌<◌, length, subst, sym}
-use Rattle.heap_world.specs.World.{World}
 use Rattle.plain_machine.proofs.Live.{sound_of}
 use Rattle.plain_machine.proofs.machine.Machine.process.Goals as goal
 

@@ -1,5 +1,5 @@
 use Rattle.std.proofs.Common.{◌≡◌, ◌<◌, ◌∙◌, Some, ap, length, slice_get, subst, sym}
-use Rattle.heap_world.specs.World.{World, put_process}
+use Rattle.heap_world.specs.World.{put_process}
 use Rattle.plain_machine.proofs.Worlds.{settled_possible, settled_put, with_next}
 use Rattle.plain_machine.proofs.machine.Machine.settle.Goals as goal
 
