@@ -1,12 +1,14 @@
 -- What holds of every memory that is sound, in other words.
-use Rattle.std.proofs.Common.{◌≡◌, ◌≢◌, ℕ, zero, suc, ◌+◌, ◌<◌, ◌≤◌, Bool, true, false, cond, List, [], ◌∷◌, map, length, get_or, Some, None, Option, is_some, count_by, refl, sym, ap, ◌∙◌, inl, inr, arith, eqb, ltb, ◌&&◌, true≢false}
+use Rattle.std.proofs.Common.{◌≡◌, ◌≢◌, ℕ, zero, suc, ◌+◌, ◌<◌, ◌≤◌, Bool, true, false, cond, List, [], ◌∷◌, map, length, get_or, Some, None, Option, is_some, count_by, refl, sym, ap, ◌∙◌, inl, inr, arith, eqb, ltb, ◌&&◌, true≢false, ◌⊎◌, subst₂, IsTrue, option_map}
 use Rattle.std.proofs.Math.Bool.{and-true}
+use Rattle.std.proofs.lemmas.Option.{none-some}
 use Rattle.std.proofs.lemmas.Nat.{le_bytes_2, le_bytes_4, le_bytes_8}
 use Rattle.std.proofs.lemmas.List.{get_or_past}
 use Rattle.std.proofs.lemmas.Bool.{cases_eq, cases_lt, eq-eqb, ne_eqb, cond-true, cond-false, le-leb, lt-leb, le-ltb, lt-ltb, leb-true, and_from}
 use Rattle.cow_pages.specs.declared.address.Window.{Window}
 use Rattle.cow_pages.specs.Address.{page_of, offset_of, is_in, first_page, page_count}
-use Rattle.cow_pages.specs.Memory.{Memory, Page, Table, page_in, page_at, table_of, is_mapped, flag_of, RisesFrom, IsSound}
+use Rattle.cow_pages.specs.Memory.{Memory, Page, Table, page_in, page_at, table_of, is_mapped, flag_of, RisesFrom, IsSound, frame_at, HasOneSharer, IsFree}
+use Rattle.cow_pages.specs.Change.{ChangesPage, ChangesTable}
 use Rattle.cow_pages.specs.View.{View, view_of, byte_at, byte_in, numbers_from, bytes_at, u16_at, u32_at, u64_at}
 use Rattle.cow_pages.specs.Laws.{IsPaged, HasNumbers, CountsPages, pages_in}
 use Rattle.cow_pages.proofs.SoundLemmas.{count-step}
@@ -137,3 +139,60 @@ counts m t w sound = record {
         ∙ ap (λ (b : Bool). cond b 1 0 + count_by g xs) (sym (same x))
         ∙ ap (λ r. cond (f x) 1 0 + r) (count-as f g xs same)
         ∙ sym (count-step f x xs)
+
+-- sharers
+
+-- a page keeps its frame to itself where another page changes that has its own old frame or one that was free
+pub one_stays : (old new : Memory) (t p u q : ℕ) → ChangesPage old new u q → (u ≢ t) ⊎ (q ≢ p) → IsTrue (is_mapped old t p)
+    → ((f : ℕ) → frame_at new u q ≡ Some f → (frame_at old u q ≡ Some f) ⊎ IsFree old f) → HasOneSharer old t p → HasOneSharer new t p
+one_stays old new t p u q rest apart mapped from one v r same =
+    let here : frame_at new t p ≡ frame_at old t p = ap (option_map (λ (page : Page). page.frame)) (rest.others t p (apart_from apart)) in
+    let f = frame_there (page_at old t p) mapped in
+    by_place v r (same ∙ here) f.0 f.1 (cases_eq v u) (cases_eq r q)
+  where
+    apart_from : (u ≢ t) ⊎ (q ≢ p) → (t ≢ u) ⊎ (p ≢ q)
+    apart_from (inl a) = inl (λ e. a (sym e))
+    apart_from (inr b) = inr (λ e. b (sym e))
+
+    frame_there : (o : Option Page) → IsTrue (is_some o) → (f : ℕ) × (option_map (λ (page : Page). page.frame) o ≡ Some f)
+    frame_there None is = absurd (true≢false (sym is))
+    frame_there (Some page) is = (page.frame, refl)
+
+    as_before : (v r : ℕ) → (v ≢ u) ⊎ (r ≢ q) → frame_at new v r ≡ frame_at old t p → (v ≡ t) × (r ≡ p)
+    as_before v r apart same = one v r (sym (ap (option_map (λ (page : Page). page.frame)) (rest.others v r apart)) ∙ same)
+
+    at_changed : (f : ℕ) → frame_at old t p ≡ Some f → (frame_at old u q ≡ Some f) ⊎ IsFree old f → (u ≡ t) × (q ≡ p)
+    at_changed f is (inl had) = one u q (had ∙ sym is)
+    at_changed f is (inr free) = absurd (free t p is)
+
+    by_place : (v r : ℕ) → frame_at new v r ≡ frame_at old t p → (f : ℕ) → frame_at old t p ≡ Some f → (v ≡ u) ⊎ (v ≢ u) → (r ≡ q) ⊎ (r ≢ q) → (v ≡ t) × (r ≡ p)
+    by_place v r same f is (inr apart) other = as_before v r (inl apart) same
+    by_place v r same f is (inl equal) (inr apart) = as_before v r (inr apart) same
+    by_place v r same f is (inl equal) (inl level) =
+        let found : frame_at new u q ≡ Some f = subst₂ (λ a b. frame_at new a b ≡ Some f) equal level (same ∙ is) in
+        let both = at_changed f is (from f found) in
+        (equal ∙ both.0, level ∙ both.1)
+
+-- a page whose frame no entry had has it alone
+pub one_from_free : (old new : Memory) (t p f : ℕ) → ChangesPage old new t p → IsFree old f → frame_at new t p ≡ Some f → HasOneSharer new t p
+one_from_free old new t p f rest free is u q same = by_place (cases_eq u t) (cases_eq q p)
+  where
+    other : (u ≢ t) ⊎ (q ≢ p) → ⊥
+    other apart = free u q (sym (ap (option_map (λ (page : Page). page.frame)) (rest.others u q apart)) ∙ same ∙ is)
+
+    by_place : (u ≡ t) ⊎ (u ≢ t) → (q ≡ p) ⊎ (q ≢ p) → (u ≡ t) × (q ≡ p)
+    by_place (inr apart) level = absurd (other (inl apart))
+    by_place (inl equal) (inr apart) = absurd (other (inr apart))
+    by_place (inl equal) (inl level) = (equal, level)
+
+-- a frame that an ended table had to itself is free
+pub free_at_end : (old new : Memory) (t p f : ℕ) → ChangesTable old new t → ((q : ℕ) → page_at new t q ≡ None) → HasOneSharer old t p → frame_at old t p ≡ Some f → IsFree new f
+free_at_end old new t p f rest none one is u q found = by_table (cases_eq u t)
+  where
+    by_table : (u ≡ t) ⊎ (u ≢ t) → ⊥
+    by_table (inl equal) =
+        let nothing : frame_at new u q ≡ None = ap (λ n. frame_at new n q) equal ∙ ap (option_map (λ (page : Page). page.frame)) (none q) in
+        none-some f (sym nothing ∙ found)
+    by_table (inr apart) =
+        let had : frame_at old u q ≡ Some f = sym (ap (option_map (λ (page : Page). page.frame)) (rest.others u q apart)) ∙ found in
+        apart (one u q (had ∙ sym is)).0

@@ -106,6 +106,7 @@ impl Frames {
         requires window { IsTrue (is_in_window page.0) }
         requires unmapped { page_at self.old t.0 page.0 ≡ None }
         ensures zeros { OnOk result (MapsZeros self.old self.new t.0 page.0) }
+        ensures alone { OnOk result (HasOneSharer self.new t.0 page.0) }
         ensures rest { OnOk result (ChangesPage self.old self.new t.0 page.0) }
         ensures view { OnOk result (MapsPage (view_of self.old t.0) (view_of self.new t.0) page.0) }
         ensures others_seen { OnOk result (OthersSeen self.old self.new t.0) }
@@ -295,6 +296,7 @@ impl Frames {
         ensures ended { is_live self.new t.0 ≡ false }
         ensures unmapped { (p : ℕ) → page_at self.new t.0 p ≡ None }
         ensures rest { ChangesTable self.old self.new t.0 }
+        ensures freed { (p f : ℕ) → HasOneSharer self.old t.0 p → frame_at self.old t.0 p ≡ Some f → IsFree self.new f }
         ensures view { IsEmptyView (view_of self.new t.0) }
         ensures others_seen { OthersSeen self.old self.new t.0 }
         ensures room { FreesFrames self.old self.new }

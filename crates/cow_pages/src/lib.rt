@@ -16,4 +16,7 @@ mod tests;
 
 pub use address::{Addr, FrameNo, PageNo, TableNo, Window};
 pub use frames::Frames;
-pub use laws::{counts_are_of_pages, numbers_are_bytes, used_frames_have_entries, views_are_paged};
+pub use laws::{
+    counts_are_of_pages, numbers_are_bytes, one_sharer_stays, used_frames_have_entries,
+    views_are_paged,
+};

@@ -1,4 +1,5 @@
 use Rattle.cow_pages.proofs.SoundLemmas.{sound}
+use Rattle.cow_pages.proofs.LawLemmas.{free_at_end}
 use Rattle.cow_pages.proofs.ViewLemmas.{OthersSeen-table, page_at-ended, IsEmptyView-ended}
 use Rattle.cow_pages.proofs.frames.Frames.drop_table.Goals as goal
 
@@ -25,3 +26,6 @@ returns-clause-unmapped c = page_at-ended _ _ _ c.drop_table.ensures.rest c.drop
 
 pub returns-clause-view : goal.returns-clause-view
 returns-clause-view c = IsEmptyView-ended _ _ _ c.drop_table.ensures.rest c.drop_table.ensures.ended
+
+pub returns-clause-freed : goal.returns-clause-freed
+returns-clause-freed c = rw (← c.self.view_is) (λ p f one is. free_at_end _ _ c.args.t.0 p f c.drop_table.ensures.rest (page_at-ended _ _ _ c.drop_table.ensures.rest c.drop_table.ensures.ended) one is)

@@ -1,3 +1,9 @@
+use Rattle.std.proofs.Common.{ap}
+use Rattle.std.specs.Prelude.{option_map}
+use Rattle.cow_pages.specs.Memory.{Page}
+use Rattle.cow_pages.specs.Change.{MapsZeros}
+use Rattle.cow_pages.specs.Store.{shown}
+use Rattle.cow_pages.proofs.LawLemmas.{one_from_free}
 use Rattle.cow_pages.proofs.SoundLemmas.{sound}
 use Rattle.cow_pages.proofs.RoomLemmas.{on_ok_both}
 use Rattle.cow_pages.proofs.ViewLemmas.{OthersSeen-page, MapsPage-zeros}
@@ -35,3 +41,6 @@ returns-clause-sound c = sound _ c.map_zero.ensures.kept
 
 pub returns-clause-one : goal.returns-clause-one
 returns-clause-one c = rw (← c.self.view_is) c.map_zero.ensures.one
+
+pub returns-clause-alone : goal.returns-clause-alone
+returns-clause-alone c = on_ok_both _ (λ (zeros : MapsZeros (shown c.self.inside.store) (shown c.map_zero.new.self) c.args.t.0 c.args.page.0) rest. one_from_free (shown c.self.inside.store) (shown c.map_zero.new.self) c.args.t.0 c.args.page.0 zeros.frame rest zeros.frame_is (ap (option_map (λ (page : Page). page.frame)) zeros.now)) c.map_zero.ensures.zeros c.map_zero.ensures.rest

@@ -1,15 +1,12 @@
-use Rattle.std.proofs.Common.{◌≡◌, ◌≢◌, ◌⊎◌, ◌∙◌, sym, ap, subst, Some, refl, true≢false}
+use Rattle.std.proofs.Common.{◌≡◌, ◌∙◌, sym, ap, Some}
 use Rattle.std.specs.Prelude.{option_map}
 use Rattle.cow_pages.specs.Address.{page_of}
-use Rattle.cow_pages.specs.Memory.{IsShared, HasOneSharer}
-use Rattle.cow_pages.specs.Change.{TakesOnCopy}
 use Rattle.cow_pages.specs.Place.{place_of}
 use Rattle.cow_pages.specs.Store.{page_of_entry, shown}
 use Rattle.cow_pages.proofs.PlaceLemmas.{place_found}
 use Rattle.cow_pages.proofs.ReadLemmas.{mapped_live, not_mapped, page_at-place, page_at-none}
 use Rattle.cow_pages.proofs.SoundLemmas.{one_sharer}
 use Rattle.cow_pages.proofs.ChangeLemmas.{owned, written-by, TakesOnCopy-none}
-use Rattle.cow_pages.proofs.RoomLemmas.{on_err, used-kept}
 use Rattle.cow_pages.proofs.store.Store.write.Goals as goal
 
 pub unreachable-requires : goal.unreachable-requires
