@@ -1,5 +1,5 @@
 -- An object's words and values determine its bytes.
-use Rattle.std.proofs.Common.{◌≡◌, ◌∙◌, ℕ, zero, suc, ◌+◌, ◌-◌, ◌<◌, ◌≤◌, Bool, true, false, true≢false, ◌&&◌, ◌||◌, nat_le, nat_lt, List, [], ◌∷◌, map, length, get_or, Option, Some, None, refl, sym, ap, subst, inl, inr, arith, ℤ}
+use Rattle.std.proofs.Common.{◌≡◌, ◌⊎◌, ◌∙◌, ℕ, zero, suc, ◌+◌, ◌-◌, ◌<◌, ◌≤◌, Bool, true, false, true≢false, ◌&&◌, ◌||◌, nat_le, nat_lt, List, [], ◌∷◌, map, length, get_or, Option, Some, None, refl, sym, ap, subst, inl, inr, arith, ℤ}
 use Rattle.std.specs.Int.{w16, w32, w64, to_le_bytes}
 use Rattle.std.proofs.lemmas.Bool.{cases_lt, leb-true, ltb-true}
 use Rattle.std.proofs.lemmas.List.{get_or_past}
@@ -10,7 +10,8 @@ use Rattle.class_layout.specs.declared.kind.FieldAt.{FieldAt}
 use Rattle.class_layout.specs.ClassList.{Class}
 use Rattle.class_layout.specs.Kinds.{kind_bytes}
 use Rattle.class_layout.specs.Placing.{IsIn}
-use Rattle.cow_pages.specs.Address.{page_of, offset_of}
+use Rattle.cow_pages.specs.Address.{page_of, offset_of, is_in, is_in_window}
+use Rattle.cow_pages.specs.declared.address.Window.TheVariants.{Image, Zygote, Regions, Large}
 use Rattle.cow_pages.specs.Memory.{Memory, Page, page_at, IsSound}
 use Rattle.cow_pages.specs.View.{View, byte_at, byte_in, bytes_at, numbers_from, u16_at, u32_at, u64_at}
 use Rattle.heap_graph.specs.declared.names.Shape.{Shape}
@@ -120,3 +121,24 @@ bytes-below m t sound at = byte-small (page_at m t (page_of at)) (offset_of at) 
   | inl within ↦ sound.bytes t (page_of at) page is k 0 within
   | inr past ↦ subst (λ b. b < 256) (sym (get_or_past page.bytes k 0 past)) (omega arith)
 ])
+
+one-of : (a b : Bool) → (a || b) ≡ true → (a ≡ true) ⊎ (b ≡ true)
+one-of true b is = inl refl
+one-of false b is = inr is
+
+second : (a b : Bool) → (a && b) ≡ true → b ≡ true
+second true b is = is
+second false b is = absurd (true≢false (sym is))
+
+-- a page of a window lies before the last window's end
+pub window-below : (p : ℕ) → is_in_window p ≡ true → p < 0xa0000
+window-below p is = elim (one-of (is_in Image p || is_in Zygote p || is_in Regions p) (is_in Large p) is) [
+  | inr large ↦ ltb-true p 0xa0000 (second (nat_le 0x80000 p) (nat_lt p 0xa0000) large)
+  | inl is ↦ elim (one-of (is_in Image p || is_in Zygote p) (is_in Regions p) is) [
+    | inr regions ↦ omega (arith, ltb-true p 0x50000 (second (nat_le 0x40000 p) (nat_lt p 0x50000) regions))
+    | inl is ↦ elim (one-of (is_in Image p) (is_in Zygote p) is) [
+      | inl image ↦ omega (arith, ltb-true p 0x24000 (second (nat_le 0x20000 p) (nat_lt p 0x24000) image))
+      | inr zygote ↦ omega (arith, ltb-true p 0x40000 (second (nat_le 0x30000 p) (nat_lt p 0x40000) zygote))
+    ]
+  ]
+]

@@ -7,7 +7,8 @@ ghost use Rattle.class_layout.specs.Kinds.{kind_bytes};
 ghost use Rattle.class_layout.specs.Layout.{field_named};
 ghost use Rattle.class_layout.specs.Placing.{IsIn};
 ghost use Rattle.cow_pages.specs.declared.address.Addr.{Addr};
-ghost use Rattle.cow_pages.specs.Memory.{IsSound, Memory};
+ghost use Rattle.cow_pages.specs.Address.{page_of};
+ghost use Rattle.cow_pages.specs.Memory.{is_mapped, IsSound, Memory};
 ghost use Rattle.cow_pages.specs.View.{view_of, View};
 ghost use Rattle.heap_graph.specs.declared.names.Shape.{Shape};
 ghost use Rattle.heap_graph.specs.Sizes.{size_in};
@@ -78,4 +79,9 @@ pub fn objects_are_their_bytes()
     ensures bytes { (cs : List Class) (v w : View) (from to : ℕ) (shape : Shape) (header : Header) (values : FieldAt → ℤ) → AreBytes v → AreBytes w → Stands cs v from shape header values
         → Stands cs w to shape header values → HasBytes v w from to (size_in cs shape) }
     ensures small { (m : Memory) (t : ℕ) → IsSound m → AreBytes (view_of m t) }
+{}
+
+/// What is mapped lies below 0xa0000000, where the last window ends.
+pub fn mapped_is_below()
+    ensures { (m : Memory) (t at : ℕ) → IsSound m → IsTrue (is_mapped m t (page_of at)) → at < 0xa0000000 }
 {}

@@ -15,8 +15,9 @@ mod words;
 
 pub use headers::{read_header, read_shape, set_forward};
 pub use laws::{
-    copies_stand, forwarded_objects_stand, headers_read_back, objects_are_their_bytes,
-    others_stand, places_lie_in_objects, references_rise, stored_values_stand, values_read_back,
+    copies_stand, forwarded_objects_stand, headers_read_back, mapped_is_below,
+    objects_are_their_bytes, others_stand, places_lie_in_objects, references_rise,
+    stored_values_stand, values_read_back,
 };
 pub use names::{Header, Heap, Slot};
 pub use objects::{copy_object, ref_slot, write_new};

@@ -34,3 +34,21 @@ fn array_in_memory(rt: HostRuntime) -> Result<(), Fail> {
     assert_eq!(rt; load(&mut frames, t, TO, Kind::Short, 14), -2);
     Ok(())
 }
+
+// The one field of a weak reference is its weak slot.
+#[test]
+fn weak_slot(rt: HostRuntime) -> Result<(), Fail> {
+    let classes = Classes::new(rt.alloc())?;
+    let mut frames = Frames::new(rt.alloc());
+    let t = frames.new_table()?;
+    frames.map_zero(t, PAGE)?;
+    write_new(&mut frames, &classes, t, AT, Shape::Instance(1), 7)?;
+    let slot = ref_slot(&mut frames, &classes, t, AT, 0);
+    let expected = Slot {
+        at: Addr(0x4000_0008),
+        target: Addr(0),
+        weak: true,
+    };
+    assert_eq!(rt; slot, Some(expected));
+    Ok(())
+}
