@@ -1,4 +1,4 @@
-use Rattle.std.proofs.Common.{◌+◌, arith, rules}
+use Rattle.std.proofs.Common.{◌≡◌, ◌+◌, arith, rules, subst}
 use Rattle.std.specs.Prelude.{OnOk}
 use Rattle.std.specs.Int.{w32, to_le_bytes}
 use Rattle.std.proofs.lemmas.Result.{on_ok_weaker}
@@ -6,9 +6,9 @@ use Rattle.cow_pages.specs.Address.{page_of}
 use Rattle.cow_pages.specs.View.{view_of}
 use Rattle.class_layout.specs.declared.kind.Kind.TheVariants.{Int}
 use Rattle.object_view.specs.declared.names.Header.TheVariants.{Forward}
-use Rattle.object_view.specs.Changes.{PutsNumber}
+use Rattle.object_view.specs.Changes.{AreWritten, PutsNumber}
 use Rattle.object_view.specs.Words.{lock_word}
-use Rattle.object_view.proofs.Spans.{single-pages}
+use Rattle.object_view.proofs.Spans.{AreWritten-write, single-pages}
 use Rattle.object_view.proofs.Standing.{Stands-forwarded}
 use Rattle.object_view.proofs.headers.set_forward.Goals as goal
 
@@ -21,3 +21,10 @@ pub returns-clause-pages : goal.returns-clause-pages
 returns-clause-pages c =
     single-pages c.write_u32.result c.args.frames.now c.write_u32.new.self c.args.t.0 (c.args.at.0 + 4) (page_of c.args.at.0) (to_le_bytes w32 c.lock_word.result) (omega (arith, c.requires.aligned))
     c.write_u32.ensures.page c.write_u32.ensures.takes c.write_u32.ensures.err
+
+pub returns-clause-written : goal.returns-clause-written
+returns-clause-written c =
+    let same : page_of (c.args.at.0 + 4) ≡ page_of c.args.at.0 = omega (arith, c.requires.aligned) in
+    on_ok_weaker c.write_u32.result
+    (λ w. subst (λ p. AreWritten c.write_u32.new.self c.args.t.0 p 1) same
+    (AreWritten-write c.args.frames.now c.write_u32.new.self c.args.t.0 (c.args.at.0 + 4) (to_le_bytes w32 c.lock_word.result) w)) c.write_u32.ensures.page
