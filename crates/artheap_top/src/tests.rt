@@ -1,3 +1,5 @@
+ghost use Rattle.heap_world.specs.Formed.{HasFewFields};
+
 use crate::rows::ROWS;
 use crate::{Machine, Status, artheap};
 use ah_outside::{MemorySink, MemorySource, SoundShelf};
@@ -128,11 +130,13 @@ fn words_faults_and_limits_have_their_status(rt: HostRuntime) -> Result<(), Fail
 }
 
 /// A command that makes an object of class 0.
-fn make(name: &[u8]) -> Command {
+fn make(root: Name) -> Command
+    ensures { HasFewFields result.verb }
+{
     Command {
         process: Name::of(b"zygote").unwrap(),
         verb: Verb::New {
-            root: Name::of(name).unwrap(),
+            root,
             class: Name::of(b"java.lang.Object").unwrap(),
         },
     }
@@ -142,7 +146,7 @@ fn make(name: &[u8]) -> Command {
 fn numbers_end(rt: HostRuntime) -> Result<(), Fail> {
     let mut machine = Machine::new(rt.alloc());
     machine.prepare(64, 268_435_455)?;
-    let first = machine.step(1, &make(b"a"))?;
+    let first = machine.step(1, &make(Name::of(b"a").unwrap()))?;
     assert!(rt;
         matches!(
             first,
@@ -152,7 +156,7 @@ fn numbers_end(rt: HostRuntime) -> Result<(), Fail> {
             }
         )
     );
-    let second = machine.step(2, &make(b"b"))?;
+    let second = machine.step(2, &make(Name::of(b"b").unwrap()))?;
     assert!(rt; matches!(second, Reply::Refused(Refusal::NumberLimit)));
     Ok(())
 }
