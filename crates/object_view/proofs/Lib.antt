@@ -1,0 +1,10 @@
+pub mod Outcomes
+pub mod Numbers
+pub mod Laid
+pub mod Standing
+pub mod Spans
+pub mod Heads
+pub mod Lookups
+pub mod Stores
+pub mod Copies
+pub mod Bytes

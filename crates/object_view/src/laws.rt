@@ -1,0 +1,87 @@
+//! Laws above the definitions: what they say, in other words.
+ghost use Rattle.std.specs.Prelude.{◌≡◌, ◌⊎◌, ℕ, ◌+◌, ◌≤◌, ◌%◌, ◌^◌, ◌<◌, Some, IsTrue, ℤ, List};
+ghost use Rattle.class_layout.specs.declared.kind.FieldAt.{FieldAt};
+ghost use Rattle.class_layout.specs.declared.kind.Kind.{Kind};
+ghost use Rattle.class_layout.specs.ClassList.{Class, layout_of};
+ghost use Rattle.class_layout.specs.Kinds.{kind_bytes};
+ghost use Rattle.class_layout.specs.Layout.{field_named};
+ghost use Rattle.class_layout.specs.Placing.{IsIn};
+ghost use Rattle.cow_pages.specs.declared.address.Addr.{Addr};
+ghost use Rattle.cow_pages.specs.Address.{page_of};
+ghost use Rattle.cow_pages.specs.Memory.{is_mapped, IsSound, Memory};
+ghost use Rattle.cow_pages.specs.View.{view_of, View};
+ghost use Rattle.heap_graph.specs.declared.names.Shape.{Shape};
+ghost use Rattle.heap_graph.specs.Sizes.{size_in};
+ghost use Rattle.object_view.specs.declared.names.Header.{Header};
+ghost use Rattle.object_view.specs.declared.names.Header.TheVariants.{Forward};
+ghost use Rattle.object_view.specs.Changes.{ChangesWithin, HasBytes, PutsNumber};
+ghost use Rattle.object_view.specs.Objects.{element, places_of, reference_place, HasHeader, HasShape, IsPlace, IsSpace, Stands};
+ghost use Rattle.object_view.specs.Values.{is_value, number_of, value_of, with_value, AreBytes};
+ghost use Rattle.object_view.specs.Words.{head_end, lock_word};
+
+/// An object has its shape and its header, and no other.
+pub fn headers_read_back()
+    ensures shape { (cs : List Class) (v : View) (at : ℕ) (shape : Shape) (header : Header) (values : FieldAt → ℤ) → Stands cs v at shape header values → HasShape v at shape }
+    ensures header { (cs : List Class) (v : View) (at : ℕ) (shape : Shape) (header : Header) (values : FieldAt → ℤ) → Stands cs v at shape header values → HasHeader v at header }
+    ensures one_shape { (v : View) (at : ℕ) (a b : Shape) → HasShape v at a → HasShape v at b → a ≡ b }
+    ensures one_header { (v : View) (at : ℕ) (a b : Header) → HasHeader v at a → HasHeader v at b → a ≡ b }
+{}
+
+/// A value of a kind is what its number stands for.
+pub fn values_read_back()
+    ensures { (kind : Kind) (z : ℤ) → IsTrue (is_value kind z) → value_of kind (number_of kind z) ≡ z }
+{}
+
+/// Fields that a name finds and elements are places. Each place lies in the object behind its words, at a multiple of its size.
+pub fn places_lie_in_objects()
+    ensures field { (cs : List Class) (class : ℕ) (name : List ℕ) (place : FieldAt) → field_named (layout_of cs class) name ≡ Some place → IsIn place (places_of cs (Shape.Instance class)) }
+    ensures element { (cs : List Class) (kind : Kind) (count i : ℕ) → i < count → IsIn (element kind i) (places_of cs (Shape.Array kind count)) }
+    ensures reference { (cs : List Class) (shape : Shape) (k : ℕ) (place : FieldAt) → reference_place cs shape k ≡ Some place → IsPlace cs shape Kind.Ref place.offset place }
+    ensures within { (cs : List Class) (shape : Shape) (kind : Kind) (offset : ℕ) (place : FieldAt) → IsPlace cs shape kind offset place
+        → (head_end shape ≤ offset) × (offset % kind_bytes kind ≡ 0) × (offset + kind_bytes kind ≤ size_in cs shape) }
+{}
+
+/// The references of a shape stand by rising offset.
+pub fn references_rise()
+    ensures { (cs : List Class) (shape : Shape) (j k : ℕ) (a b : FieldAt) → j < k → reference_place cs shape j ≡ Some a → reference_place cs shape k ≡ Some b → a.offset + 4 ≤ b.offset }
+{}
+
+/// An object with one value stored has that value there, and every other one as before.
+pub fn stored_values_stand()
+    ensures { (cs : List Class) (old new : View) (at : ℕ) (shape : Shape) (header : Header) (values : FieldAt → ℤ) (kind : Kind) (offset : ℕ) (place : FieldAt) (z : ℤ)
+        → Stands cs old at shape header values → IsPlace cs shape kind offset place → PutsNumber old new kind (at + offset) (number_of kind z)
+        → Stands cs new at shape header (with_value values offset z) }
+{}
+
+/// An object that is forwarded has its values.
+pub fn forwarded_objects_stand()
+    ensures { (cs : List Class) (old new : View) (at : ℕ) (shape : Shape) (header : Header) (values : FieldAt → ℤ) (to : Addr)
+        → Stands cs old at shape header values → to.0 % 8 ≡ 0 → to.0 < 2 ^ 32 → PutsNumber old new Kind.Int (at + 4) (lock_word (Forward to))
+        → Stands cs new at shape (Forward to) values }
+{}
+
+/// An object whose bytes were copied stands at the new address too.
+pub fn copies_stand()
+    ensures { (cs : List Class) (old new : View) (from to : ℕ) (shape : Shape) (header : Header) (values : FieldAt → ℤ)
+        → Stands cs old from shape header values → to % 8 ≡ 0 → IsSpace new to (size_in cs shape) → HasBytes old new from to (size_in cs shape)
+        → Stands cs new to shape header values }
+{}
+
+/// An object stands as it stood where bytes beside it changed.
+pub fn others_stand()
+    ensures { (cs : List Class) (old new : View) (at from to : ℕ) (shape : Shape) (header : Header) (values : FieldAt → ℤ)
+        → Stands cs old at shape header values → ChangesWithin old new from to → (at + size_in cs shape ≤ from) ⊎ (to ≤ at)
+        → Stands cs new at shape header values }
+{}
+
+/// What stands for an object is each of its bytes: where the same object stands twice, the bytes are the same.
+pub fn objects_are_their_bytes()
+    ensures bytes { (cs : List Class) (v w : View) (from to : ℕ) (shape : Shape) (header : Header) (values : FieldAt → ℤ) → AreBytes v → AreBytes w → Stands cs v from shape header values
+        → Stands cs w to shape header values → HasBytes v w from to (size_in cs shape) }
+    ensures small { (m : Memory) (t : ℕ) → IsSound m → AreBytes (view_of m t) }
+{}
+
+/// What is mapped lies below 0xa0000000, where the last window ends.
+pub fn mapped_is_below()
+    ensures { (m : Memory) (t at : ℕ) → IsSound m → IsTrue (is_mapped m t (page_of at)) → at < 0xa0000000 }
+{}

@@ -1,0 +1,24 @@
+//! Objects in pages: headers, values and references at their addresses.
+//!
+//! An object stands at a multiple of 8: its class word, its lock word, the length of an array, each value at its
+//! offset, and zeros between and behind them up to its rounded size.
+#![tactic(auto)]
+
+mod headers;
+mod laws;
+mod names;
+mod objects;
+#[cfg(test)]
+mod tests;
+mod values;
+mod words;
+
+pub use headers::{read_header, read_shape, set_forward};
+pub use laws::{
+    copies_stand, forwarded_objects_stand, headers_read_back, mapped_is_below,
+    objects_are_their_bytes, others_stand, places_lie_in_objects, references_rise,
+    stored_values_stand, values_read_back,
+};
+pub use names::{Header, Heap, Slot};
+pub use objects::{copy_object, ref_slot, write_new};
+pub use values::{load, store};
