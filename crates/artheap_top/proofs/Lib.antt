@@ -1,3 +1,1 @@
-pub mod InputLemmas
-pub mod Outside
-pub mod RunLemmas
+pub mod Reports

@@ -1,24 +1,32 @@
--- How a run may end, and what it leaves.
-use Rattle.std.specs.Prelude.{◌≡◌, ℕ, ◌+◌, ◌<◌, ◌≤◌, Bool, true, false, List, [], ◌++◌, Option, IfSome, IsSomeAnd, length}
+-- How a job may end, and what it leaves.
+use Rattle.std.specs.Prelude.{◌≡◌, ◌⊎◌, ℕ, ◌+◌, ◌<◌, ◌≤◌, Bool, true, false, List, [], ◌∷◌, ◌++◌, Option, IfSome, IsSomeAnd, length, take}
 use Rattle.ah_outside.specs.Outside.{FaultRose, Gave, Gained, GainedPrefix}
-use Rattle.artheap_top.specs.declared.run.Stop.{Stop}
 use Rattle.artheap_top.specs.declared.status.Status.{Status}
 use Rattle.artheap_top.specs.declared.status.Status.TheVariants as status
-use Rattle.artheap_top.specs.declared.run.Stop.TheVariants.{Read, Write, Memory, TooLong}
-use Rattle.heap_world.specs.Run.{Answer}
-use Rattle.heap_world.specs.World.{World, first_world}
+use Rattle.heap_world.specs.World.{World}
 use Rattle.plain_machine.specs.Worlds.{StandsFor}
-use Rattle.artheap_top.specs.Report.{answers, report, report_of, has_refusal, last_world}
+use Rattle.script_lang.specs.Parts.{lines, whole_lines}
+use Rattle.script_make.specs.Lines.{soak_lines}
+use Rattle.artheap_top.specs.Report.{answers_of, has_refusal, line_report, report_of, world_of}
+use Rattle.artheap_top.specs.Summary.{summary}
 
 -- the greatest length of an input, in bytes
 abbrev pub input_limit : ℕ
 input_limit = 268435456
 
+-- the most bytes that are taken at once
+abbrev pub piece_limit : ℕ
+piece_limit = 4096
+
 -- what the source has left is no longer than an input may be, where the source tells it
 abbrev pub HasFewLeft : Option (List ℕ) → Type 0
 HasFewLeft left = IsSomeAnd left (λ text. length text ≤ input_limit)
 
--- the answers of a run that was neither refused for its words nor stopped by a fault or by its input's length
+-- nothing is left, where the source tells it
+abbrev pub NothingLeft : Option (List ℕ) → Type 0
+NothingLeft left = IfSome left (λ rest. rest ≡ [])
+
+-- the answers of a job that was neither refused for its words nor stopped by a fault or by its input's length
 abbrev pub EndsWell : Status → Type 0
 EndsWell status.Ok = Unit {0}
 EndsWell status.Refused = Unit {0}
@@ -30,87 +38,91 @@ EndsWell status.ShelfFault = ⊥
 EndsWell status.NotDump = ⊥
 EndsWell status.TooLong = ⊥
 
--- the whole input was taken, and is this text
-pub record TookAll (left left' : Option (List ℕ)) (text : List ℕ) : Type 0 where
-  pub gave : Gave left text left'
-  pub nothing_left : IfSome left' (λ rest. rest ≡ [])
-  pub fits : length text ≤ input_limit
+-- lines were run: the sink has gained their report, and the machine stands for the world after them
+pub record RanLines (budget : ℕ) (ls : List (List ℕ)) (gained gained' : Option (List ℕ)) (machine : World) : Type 0 where
+  pub report : Gained gained (report_of (answers_of budget ls)) gained'
+  pub stands : StandsFor machine (world_of budget ls)
 
--- one take: the text has grown by what the source gave, and nothing was given exactly at the input's end
-pub record TookPiece (more : Bool) (text text' : List ℕ) (left left' : Option (List ℕ)) : Type 0 where
-  pub bytes : List ℕ
-  pub grown : text' ≡ text ++ bytes
-  pub gave : Gave left bytes left'
-  pub fits : length text' ≤ input_limit
-  pub goes_on : more ≡ true → 0 < length bytes
-  pub ends : more ≡ false → IfSome left' (λ rest. rest ≡ [])
-
--- bytes were taken, as many as are allowed or fewer
-pub record TookFew (left left' : Option (List ℕ)) (before : List ℕ) : Type 0 where
-  pub bytes : List ℕ
-  pub gave : Gave left bytes left'
-  pub fits : length (before ++ bytes) ≤ input_limit
-
--- more bytes were taken than are allowed
-pub record TookMany (left left' : Option (List ℕ)) (before : List ℕ) : Type 0 where
-  pub bytes : List ℕ
-  pub gave : Gave left bytes left'
-  pub too_many : input_limit < length (before ++ bytes)
-
--- why the taking of an input stopped, behind the bytes before
-abbrev pub StoppedTaking : Stop → Option (List ℕ) → Option (List ℕ) → List ℕ → ℕ → ℕ → Type 0
-StoppedTaking Read left left' before faults faults' = TookFew left left' before × FaultRose faults faults'
-StoppedTaking Write left left' before faults faults' = ⊥
-StoppedTaking Memory left left' before faults faults' = Unit {0}
-StoppedTaking TooLong left left' before faults faults' = TookMany left left' before
-
--- the input was read to its end, and the sink has gained its whole report
+-- the whole input was taken, and its lines were run
 pub record RanToEnd (budget : ℕ) (refused : Bool) (left left' gained gained' : Option (List ℕ)) (machine : World) : Type 0 where
   pub text : List ℕ
-  pub took : TookAll left left' text
-  pub report : Gained gained (report budget text) gained'
-  pub refusals : has_refusal (answers budget text) ≡ refused
-  pub stands : StandsFor machine (last_world budget text)
+  pub gave : Gave left text left'
+  pub nothing_left : NothingLeft left'
+  pub fits : length text ≤ input_limit
+  pub ran : RanLines budget (lines text) gained gained' machine
+  pub refusals : has_refusal (answers_of budget (lines text)) ≡ refused
 
--- the input was read to its end, and the sink has gained the first bytes of its report
-pub record RanInPart (budget : ℕ) (left left' gained gained' : Option (List ℕ)) : Type 0 where
-  pub text : List ℕ
-  pub took : TookAll left left' text
-  pub report : GainedPrefix gained (report budget text) gained'
+-- a read failed: every line whose line feed had been taken was run
+pub record StoppedReading (budget : ℕ) (left left' gained gained' : Option (List ℕ)) (machine : World) : Type 0 where
+  pub taken : List ℕ
+  pub gave : Gave left taken left'
+  pub fits : length taken ≤ input_limit
+  pub ran : RanLines budget (whole_lines taken) gained gained' machine
 
--- bytes were taken, as many as are allowed or fewer, and nothing was put; no line was run
-pub record TookSome (budget : ℕ) (left left' gained gained' : Option (List ℕ)) (machine : World) : Type 0 where
-  pub took : TookFew left left' []
-  pub nothing_put : gained' ≡ gained
-  pub stands : StandsFor machine (first_world budget 1)
-
--- more bytes were taken than are allowed, and nothing was put; no line was run
+-- more bytes were taken than are allowed, by one piece at most: every line whose line feed is within the limit was run
 pub record TookTooMany (budget : ℕ) (left left' gained gained' : Option (List ℕ)) (machine : World) : Type 0 where
-  pub took : TookMany left left' []
-  pub nothing_put : gained' ≡ gained
-  pub stands : StandsFor machine (first_world budget 1)
+  pub taken : List ℕ
+  pub gave : Gave left taken left'
+  pub too_many : input_limit < length taken
+  pub barely : length taken ≤ input_limit + piece_limit
+  pub ran : RanLines budget (whole_lines (take input_limit taken)) gained gained' machine
 
--- what lines did, given the answers to them: the sink has gained all of their report
-pub record RanLines (all : List Answer) (last : World) (refused : Bool) (gained gained' : Option (List ℕ)) (machine : World) : Type 0 where
-  pub report : Gained gained (report_of all) gained'
-  pub refusals : refused ≡ has_refusal all
-  pub stands : StandsFor machine last
+-- how far an input was taken for these lines: up to and with the line feed of the last one, and fewer bytes behind than
+-- a piece has; at the end of the input the last line may lack its line feed
+pub record CameTo (left left' : Option (List ℕ)) (ls : List (List ℕ)) : Type 0 where
+  pub upto : List ℕ
+  pub behind : List ℕ
+  pub gave : Gave left (upto ++ behind) left'
+  pub got : lines upto ≡ ls
+  pub ended : (whole_lines upto ≡ ls) ⊎ ((behind ≡ []) × NothingLeft left')
+  pub few : length behind < piece_limit
 
--- a line can stop a run where the sink fails, or memory is wanting
-abbrev pub StopsLines : Stop → ℕ → ℕ → Type 0
-StopsLines Read before now = ⊥
-StopsLines Write before now = FaultRose before now
-StopsLines Memory before now = Unit {0}
-StopsLines TooLong before now = ⊥
+-- a write failed: the line was run behind the others, and of its report the first bytes were put
+pub record StoppedWriting (budget : ℕ) (left left' gained gained' : Option (List ℕ)) (machine : World) : Type 0 where
+  pub before : List (List ℕ)
+  pub line : List ℕ
+  pub came : CameTo left left' (before ++ line ∷ [])
+  pub told : ℕ
+  pub report : Gained gained (report_of (answers_of budget before) ++ take told (line_report budget before line)) gained'
+  pub stands : StandsFor machine (world_of budget (before ++ line ∷ []))
 
--- what lines did that were not all run: the sink has gained the first bytes of their report
-pub record StoppedLines (all : List Answer) (stop : Stop) (before now : ℕ) (gained gained' : Option (List ℕ)) : Type 0 where
-  pub report : GainedPrefix gained (report_of all) gained'
-  pub cause : StopsLines stop before now
+-- nothing was taken, and no line was run
+pub record NotBegun (left left' : Option (List ℕ)) (before : List (List ℕ)) : Type 0 where
+  pub nothing_taken : left' ≡ left
+  pub no_line : before ≡ []
 
--- what a run left that stopped before its end, and why
-abbrev pub Stopped : ℕ → Stop → Option (List ℕ) → Option (List ℕ) → ℕ → ℕ → Option (List ℕ) → Option (List ℕ) → ℕ → ℕ → World → Type 0
-Stopped budget Read left left' faults faults' gained gained' sink_faults sink_faults' machine = TookSome budget left left' gained gained' machine × FaultRose faults faults'
-Stopped budget Write left left' faults faults' gained gained' sink_faults sink_faults' machine = RanInPart budget left left' gained gained' × FaultRose sink_faults sink_faults'
-Stopped budget Memory left left' faults faults' gained gained' sink_faults sink_faults' machine = Unit {0}
-Stopped budget TooLong left left' faults faults' gained gained' sink_faults sink_faults' machine = TookTooMany budget left left' gained gained' machine
+-- memory was wanting, before the first line or for the line behind those that were run; their whole report was put
+pub record StoppedForMemory (budget : ℕ) (left left' gained gained' : Option (List ℕ)) : Type 0 where
+  pub before : List (List ℕ)
+  pub came : NotBegun left left' before ⊎ ((line : List ℕ) × CameTo left left' (before ++ line ∷ []))
+  pub report : Gained gained (report_of (answers_of budget before)) gained'
+
+-- what a run leaves, by its status
+abbrev pub EndedRun : ℕ → Status → Option (List ℕ) → Option (List ℕ) → ℕ → ℕ → Option (List ℕ) → Option (List ℕ) → ℕ → ℕ → World → Type 0
+EndedRun budget status.Ok left left' faults faults' gained gained' sink_faults sink_faults' machine = RanToEnd budget false left left' gained gained' machine
+EndedRun budget status.Refused left left' faults faults' gained gained' sink_faults sink_faults' machine = RanToEnd budget true left left' gained gained' machine
+EndedRun budget status.Usage left left' faults faults' gained gained' sink_faults sink_faults' machine = ⊥
+EndedRun budget status.ReadFault left left' faults faults' gained gained' sink_faults sink_faults' machine = StoppedReading budget left left' gained gained' machine × FaultRose faults faults'
+EndedRun budget status.WriteFault left left' faults faults' gained gained' sink_faults sink_faults' machine = StoppedWriting budget left left' gained gained' machine × FaultRose sink_faults sink_faults'
+EndedRun budget status.OutOfMemory left left' faults faults' gained gained' sink_faults sink_faults' machine = StoppedForMemory budget left left' gained gained'
+EndedRun budget status.ShelfFault left left' faults faults' gained gained' sink_faults sink_faults' machine = ⊥
+EndedRun budget status.NotDump left left' faults faults' gained gained' sink_faults sink_faults' machine = ⊥
+EndedRun budget status.TooLong left left' faults faults' gained gained' sink_faults sink_faults' machine = TookTooMany budget left left' gained gained' machine
+
+-- the generated lines were run, and the machine stands for the world after them
+pub record Soaked (budget start count : ℕ) (refused : Bool) (machine : World) : Type 0 where
+  pub refusals : has_refusal (answers_of budget (soak_lines start count)) ≡ refused
+  pub stands : StandsFor machine (world_of budget (soak_lines start count))
+
+-- what a soak leaves, by its status; the source is as it was
+abbrev pub EndedSoak : ℕ → ℕ → ℕ → Status → Option (List ℕ) → Option (List ℕ) → ℕ → ℕ → World → Type 0
+EndedSoak budget start count status.Ok gained gained' faults faults' machine = Gained gained (summary budget start count) gained' × Soaked budget start count false machine
+EndedSoak budget start count status.Refused gained gained' faults faults' machine = Gained gained (summary budget start count) gained' × Soaked budget start count true machine
+EndedSoak budget start count status.Usage gained gained' faults faults' machine = ⊥
+EndedSoak budget start count status.ReadFault gained gained' faults faults' machine = ⊥
+EndedSoak budget start count status.WriteFault gained gained' faults faults' machine =
+    GainedPrefix gained (summary budget start count) gained' × StandsFor machine (world_of budget (soak_lines start count)) × FaultRose faults faults'
+EndedSoak budget start count status.OutOfMemory gained gained' faults faults' machine = gained' ≡ gained
+EndedSoak budget start count status.ShelfFault gained gained' faults faults' machine = ⊥
+EndedSoak budget start count status.NotDump gained gained' faults faults' machine = ⊥
+EndedSoak budget start count status.TooLong gained gained' faults faults' machine = ⊥

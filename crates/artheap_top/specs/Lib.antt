@@ -1,4 +1,6 @@
 pub mod Ends
+pub mod Progress
 pub mod Report
 pub mod Status
+pub mod Summary
 pub mod Words

@@ -70,9 +70,23 @@ report_of answers = flat_map (λ a. reply_line a.line a.reply) answers
 abbrev pub has_refusal : List Answer → Bool
 has_refusal answers = list_any (λ a. is_refusal a.reply) answers
 
--- the answers to a script, for processes with this budget of regions
+-- the answers to a script's lines, for processes with this budget of regions
+abbrev pub answers_of : ℕ → List (List ℕ) → List Answer
+answers_of budget ls = answers_from (first_world budget 1) 1 ls
+
+-- the world after a script's lines
+abbrev pub world_of : ℕ → List (List ℕ) → World
+world_of budget ls = world_after (first_world budget 1) 1 ls
+
+-- the report's text for a line that follows others
+abbrev pub line_report : ℕ → List (List ℕ) → List ℕ → List ℕ
+line_report budget before line =
+    let n = 1 + length before in
+    report_of (with_answer n (step_line (world_of budget before) n line).reply [])
+
+-- the answers to a script
 abbrev pub answers : ℕ → List ℕ → List Answer
-answers budget text = answers_from (first_world budget 1) 1 (lines text)
+answers budget text = answers_of budget (lines text)
 
 abbrev pub report : ℕ → List ℕ → List ℕ
 report budget text = report_of (answers budget text)
@@ -83,4 +97,4 @@ allowance budget text = allowance_from (first_world budget 1) 1 (lines text)
 
 -- the world at the end of a script
 abbrev pub last_world : ℕ → List ℕ → World
-last_world budget text = world_after (first_world budget 1) 1 (lines text)
+last_world budget text = world_of budget (lines text)

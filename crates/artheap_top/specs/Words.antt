@@ -1,13 +1,16 @@
 -- What the words of a call ask for.
 use Rattle.std.specs.Prelude.{ℕ, Bool, true, false, ◌&&◌, List, [], ◌∷◌, Option, None, Some, codes, decimal, nat_le, if◌then◌else◌}
+use Rattle.std.specs.Option.{option_map}
 use Rattle.class_layout.specs.Names.{same_name}
 use Rattle.script_lang.specs.Numbers.{digits_number}
+use Rattle.artheap_top.specs.declared.words.Job.{Job}
+use Rattle.artheap_top.specs.declared.words.Job.TheVariants as job
 
--- the number of regions that a word is: the decimal text of a number from 1 to 512
-abbrev pub regions_of : List ℕ → Option ℕ
-regions_of word =
+-- the number that a word is: the decimal text of a number from `least` to `most`
+abbrev pub number_within : ℕ → ℕ → List ℕ → Option ℕ
+number_within least most word =
     let n = digits_number word in
-    if same_name (decimal n) word && nat_le 1 n && nat_le n 512 then Some n else None
+    if same_name (decimal n) word && nat_le least n && nat_le n most then Some n else None
 
 abbrev pub default_regions : ℕ
 default_regions = 64
@@ -16,10 +19,28 @@ default_regions = 64
 abbrev pub option_regions : List (List ℕ) → Option ℕ
 option_regions [] = Some default_regions
 option_regions (word ∷ []) = None
-option_regions (word ∷ number ∷ []) = if same_name word (codes "--regions") then regions_of number else None
+option_regions (word ∷ number ∷ []) = if same_name word (codes "--regions") then number_within 1 512 number else None
 option_regions (word ∷ number ∷ more ∷ words) = None
 
--- the regions of the run that the words ask for: `run [--regions N]`
-abbrev pub run_regions : List (List ℕ) → Option ℕ
-run_regions [] = None
-run_regions (word ∷ words) = if same_name word (codes "run") then option_regions words else None
+-- a soak of these numbers, where all three are there
+abbrev pub soak_of : Option ℕ → Option ℕ → Option ℕ → Option Job
+soak_of (Some start) (Some count) (Some regions) = Some (job.Soak start count regions)
+soak_of (Some start) (Some count) None = None
+soak_of (Some start) None regions = None
+soak_of None count regions = None
+
+-- `START COUNT`, and what may follow
+abbrev pub soak_job : List (List ℕ) → Option Job
+soak_job [] = None
+soak_job (start ∷ []) = None
+soak_job (start ∷ count ∷ words) = soak_of (number_within 0 2147483647 start) (number_within 0 1000000 count) (option_regions words)
+
+-- a run with this number of regions, where there is one
+abbrev pub run_of : Option ℕ → Option Job
+run_of None = None
+run_of (Some regions) = Some (job.Run regions)
+
+-- the job that the words ask for: `run [--regions N]` or `soak START COUNT [--regions N]`
+abbrev pub job_of : List (List ℕ) → Option Job
+job_of [] = None
+job_of (word ∷ words) = if same_name word (codes "run") then run_of (option_regions words) else if same_name word (codes "soak") then soak_job words else None

@@ -1,18 +1,11 @@
 //! The top call: a script from its bytes to its report.
 #![tactic(auto)]
 
-mod examples;
-mod input;
-mod run;
+mod script;
 mod status;
-mod top;
+mod step;
+mod stop;
 mod words;
 
 pub use plain_machine::Machine;
 pub use status::Status;
-pub use top::artheap;
-
-#[cfg(test)]
-mod rows;
-#[cfg(test)]
-mod tests;

@@ -1,37 +1,83 @@
-ghost use Rattle.std.specs.Prelude.{◌≡◌, map, string_bytes};
-ghost use Rattle.artheap_top.specs.Words.{option_regions, regions_of, run_regions};
+ghost use Rattle.std.specs.Prelude.{◌≡◌, ◌≤◌, map, string_bytes, IfSome};
+ghost use Rattle.std.specs.Option.{option_copied};
+ghost use Rattle.artheap_top.specs.Words.{job_of, number_within, option_regions, run_of, soak_job, soak_of};
 
 use script_lang::read_count;
+
+/// What the words ask for.
+#[derive(Clone, Copy, Debug, PartialEq, Eq)]
+pub(crate) enum Job {
+    /// A script from the source is run, for processes with this budget of regions.
+    Run { regions: u32 },
+    /// A script that is generated from two numbers is run, and a summary put.
+    Soak {
+        start: u32,
+        count: u32,
+        regions: u32,
+    },
+}
 
 /// The regions of a process where the words don't say.
 const DEFAULT_REGIONS: u32 = 64;
 
-/// The number of regions that a word is: 1 to 512, in decimal digits without a sign or a leading zero.
-fn regions_of(word: &[u8]) -> Option<u32>
-    ensures { result ≡ regions_of word.now }
+/// The number from `least` to `most` that a word is, in decimal digits without a sign or a leading zero.
+fn number_within(least: u32, most: u32, word: &[u8]) -> Option<u32>
+    ensures number { result ≡ number_within least most word.now }
+    ensures within { IfSome result (λ n. (least ≤ n) × (n ≤ most)) }
 {
-    read_count(word).filter(|regions| 1 <= *regions && *regions <= 512)
+    read_count(word).filter(|number| least <= *number && *number <= most)
 }
 
-/// The regions that the words behind `run` ask for.
+/// The regions that the last words ask for.
 fn option_regions(words: &[String]) -> Option<u32>
-    ensures { result ≡ option_regions (map string_bytes words.now) }
+    ensures regions { result ≡ option_regions (map string_bytes words.now) }
+    ensures few { IfSome result (λ n. (1 ≤ n) × (n ≤ 512)) }
 {
     match words {
         [] => Some(DEFAULT_REGIONS),
         [word, number] if word.as_bytes() == b"--regions".as_slice() => {
-            regions_of(number.as_bytes())
+            number_within(1, 512, number.as_bytes())
         }
         _ => None,
     }
 }
 
-/// The regions of the run that the words ask for, or `None` where they have no form.
-pub(crate) fn run_regions(words: &[String]) -> Option<u32>
-    ensures { result ≡ run_regions (map string_bytes words.now) }
+/// The run or the soak that the words behind the first one ask for.
+fn run_job(words: &[String]) -> Option<Job>
+    ensures { result ≡ run_of (option_regions (map string_bytes words.now)) }
 {
-    match words.split_first() {
-        Some((word, more)) if word.as_bytes() == b"run".as_slice() => option_regions(more),
+    let regions = option_regions(words)?;
+    Some(Job::Run { regions })
+}
+
+fn soak_job(words: &[String]) -> Option<Job>
+    ensures { result ≡ soak_job (map string_bytes words.now) }
+{
+    match words {
+        [start, count, more @ ..] => {
+            let start = number_within(0, 2_147_483_647, start.as_bytes())?;
+            let count = number_within(0, 1_000_000, count.as_bytes())?;
+            let regions = option_regions(more)?;
+            Some(Job::Soak {
+                start,
+                count,
+                regions,
+            })
+        }
         _ => None,
+    }
+}
+
+/// The job that the words ask for, or `None` where they have no form.
+pub(crate) fn job_of(words: &[String]) -> Option<Job>
+    ensures { result ≡ job_of (map string_bytes words.now) }
+{
+    let (word, more) = words.split_first()?;
+    if word.as_bytes() == b"run".as_slice() {
+        run_job(more)
+    } else if word.as_bytes() == b"soak".as_slice() {
+        soak_job(more)
+    } else {
+        None
     }
 }

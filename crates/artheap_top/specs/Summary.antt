@@ -1,0 +1,48 @@
+-- The summary of a generated script.
+use Rattle.std.specs.Prelude.{ℕ, ◌+◌, Bool, true, false, List, [], ◌∷◌, ◌++◌, codes, decimal, filter, length, map, sum}
+use Rattle.heap_world.specs.declared.reply.Reply.{Reply}
+use Rattle.heap_world.specs.declared.reply.Reply.TheVariants as reply
+use Rattle.heap_world.specs.Effect.{is_refusal}
+use Rattle.heap_world.specs.Run.{Answer}
+use Rattle.heap_world.specs.World.{World, live, frame_count}
+use Rattle.script_make.specs.Lines.{soak_lines}
+use Rattle.artheap_top.specs.Report.{answers_of, world_of}
+
+-- a process collected: the replies `#n gc` and `kept K freed F`
+abbrev pub tells_collection : Reply → Bool
+tells_collection (reply.Made number collected) = collected
+tells_collection (reply.Kept kept freed) = true
+tells_collection r = false
+
+-- how many answers are refusals
+abbrev pub refusal_count : List Answer → ℕ
+refusal_count given = length (filter (λ a. is_refusal a.reply) given)
+
+-- how many answers tell a collection
+abbrev pub collection_count : List Answer → ℕ
+collection_count given = length (filter (λ a. tells_collection a.reply) given)
+
+-- a line of the summary: a word and a number
+abbrev pub summary_line : List ℕ → ℕ → List ℕ
+summary_line word n = word ++ codes " " ++ decimal n ++ codes "\n"
+
+-- stub
+abbrev pub object_sum : World → ℕ
+object_sum w = 0
+
+-- the words of the call, the lines, what their answers tell, and what the last world holds
+abbrev pub summary_of : ℕ → ℕ → List (List ℕ) → List Answer → World → List ℕ
+summary_of start count ls given w =
+    codes "soak " ++ decimal start ++ codes " " ++ decimal count ++ codes "\n"
+    ++ summary_line (codes "lines") (length ls)
+    ++ summary_line (codes "refused") (refusal_count given)
+    ++ summary_line (codes "collections") (collection_count given)
+    ++ summary_line (codes "processes") (length (live w.processes))
+    ++ summary_line (codes "objects") (object_sum w)
+    ++ summary_line (codes "frames") (frame_count w)
+
+-- the summary of the script that the generator makes of two numbers, for processes with this budget of regions
+abbrev pub summary : ℕ → ℕ → ℕ → List ℕ
+summary budget start count =
+    let ls = soak_lines start count in
+    summary_of start count ls (answers_of budget ls) (world_of budget ls)
