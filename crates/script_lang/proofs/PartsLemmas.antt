@@ -1,6 +1,7 @@
 -- The first part of a text, and the parts behind it.
-use Rattle.std.proofs.Common.{◌≡◌, ℕ, zero, suc, ◌<◌, Bool, true, false, List, [], ◌∷◌, length, get_or, take, drop, refl, sym, ◌∙◌, ap, arith}
-use Rattle.script_lang.specs.Parts.{with_byte, parts, is_byte, without_empty_last, lines}
+use Rattle.std.proofs.Common.{◌≡◌, ℕ, zero, suc, ◌<◌, Bool, true, false, List, [], ◌∷◌, ◌++◌, length, get_or, take, drop, refl, sym, ◌∙◌, ap, arith}
+use Rattle.std.proofs.lemmas.List.{append-nil}
+use Rattle.script_lang.specs.Parts.{with_byte, parts, is_byte, without_empty_last, lines, without_last, whole_lines}
 
 refuted : (b : Bool) → (b ≡ true → ⊥) → b ≡ false
 refuted true h = absurd (h refl)
@@ -62,3 +63,76 @@ lines-first text line rest h = ap without_empty_last h ∙ without_empty_last-mo
 -- a text without a line feed is one line, unless it is empty
 pub lines-last : (text line : List ℕ) → parts (is_byte 10) text ≡ line ∷ [] → line ≡ text → 0 < length text → lines text ≡ line ∷ []
 lines-last text line h whole some = ap without_empty_last h ∙ without_empty_last-one line (omega (arith, ap length whole))
+
+-- parts with further ones behind them: the last part and the first of these are one
+abbrev pub joined : List (List ℕ) → List (List ℕ) → List (List ℕ)
+joined [] qs = qs
+joined (p ∷ []) [] = p ∷ []
+joined (p ∷ []) (q ∷ qs) = (p ++ q) ∷ qs
+joined (p ∷ r ∷ ps) qs = p ∷ joined (r ∷ ps) qs
+
+-- a byte in front of joined parts
+with_byte-joined : (b : Bool) (x : ℕ) (p : List ℕ) (ps qs : List (List ℕ)) → with_byte b x (joined (p ∷ ps) qs) ≡ joined (with_byte b x (p ∷ ps)) qs
+with_byte-joined true x p ps qs = refl
+with_byte-joined false x p [] [] = refl
+with_byte-joined false x p [] (q ∷ qs) = refl
+with_byte-joined false x p (r ∷ ps) qs = refl
+
+-- the parts of two texts behind each other
+pub parts-joined : (t : ℕ → Bool) (xs ys : List ℕ) → parts t (xs ++ ys) ≡ joined (parts t xs) (parts t ys)
+parts-joined t [] ys = let some = parts-some t ys in some.2 ∙ sym (ap (joined ([] ∷ [])) some.2)
+parts-joined t (x ∷ xs) ys =
+    let some = parts-some t xs in
+    ap (with_byte (t x) x) (parts-joined t xs ys ∙ ap (λ (ps : List (List ℕ)). joined ps (parts t ys)) some.2)
+    ∙ with_byte-joined (t x) x some.0 some.1 (parts t ys)
+    ∙ sym (ap (λ (ps : List (List ℕ)). joined (with_byte (t x) x ps) (parts t ys)) some.2)
+
+-- the last of some parts and the first of others are one part
+pub joined-last : (done : List (List ℕ)) (p q : List ℕ) (qs : List (List ℕ)) → joined (done ++ p ∷ []) (q ∷ qs) ≡ done ++ (p ++ q) ∷ qs
+joined-last [] p q qs = refl
+joined-last (d ∷ []) p q qs = refl
+joined-last (d ∷ e ∷ done) p q qs = ap (λ (ps : List (List ℕ)). d ∷ ps) (joined-last (e ∷ done) p q qs)
+
+-- the last part of a text and the first of the text behind it are one part of both
+pub parts-append : (t : ℕ → Bool) (xs ys : List ℕ) (done : List (List ℕ)) (p q : List ℕ) (qs : List (List ℕ)) → parts t xs ≡ done ++ p ∷ [] → parts t ys ≡ q ∷ qs → parts t (xs ++ ys) ≡ done ++ (p ++ q) ∷ qs
+parts-append t xs ys done p q qs front back =
+    parts-joined t xs ys
+    ∙ ap (λ (ps : List (List ℕ)). joined ps (parts t ys)) front
+    ∙ ap (joined (done ++ p ∷ [])) back
+    ∙ joined-last done p q qs
+
+-- each text has a last part
+pub parts-last : (t : ℕ → Bool) (xs : List ℕ) → (done : List (List ℕ)) × (p : List ℕ) × (parts t xs ≡ done ++ p ∷ [])
+parts-last t xs = let some = parts-some t xs in let last = last_of some.0 some.1 in (last.0, last.1, some.2 ∙ last.2)
+  where
+    last_of : (q : List ℕ) (qs : List (List ℕ)) → (done : List (List ℕ)) × (p : List ℕ) × (q ∷ qs ≡ done ++ p ∷ [])
+    last_of q [] = ([], q, refl)
+    last_of q (r ∷ qs) = let more = last_of r qs in (q ∷ more.0, more.1, ap (λ (ps : List (List ℕ)). q ∷ ps) more.2)
+
+-- all but the last part, where that one is known
+pub without_last-last : (done : List (List ℕ)) (p : List ℕ) → without_last (done ++ p ∷ []) ≡ done
+without_last-last [] p = refl
+without_last-last (d ∷ []) p = refl
+without_last-last (d ∷ e ∷ done) p = ap (λ (ps : List (List ℕ)). d ∷ ps) (without_last-last (e ∷ done) p)
+
+-- only the last part is looked at
+pub without_empty_last-last : (done : List (List ℕ)) (p : List ℕ) → without_empty_last (done ++ p ∷ []) ≡ done ++ without_empty_last (p ∷ [])
+without_empty_last-last [] p = refl
+without_empty_last-last (d ∷ []) p = refl
+without_empty_last-last (d ∷ e ∷ done) p = ap (λ (ps : List (List ℕ)). d ∷ ps) (without_empty_last-last (e ∷ done) p)
+
+-- the lines that a line feed ends, in front of the last part
+pub whole_lines-last : (text : List ℕ) (done : List (List ℕ)) (p : List ℕ) → parts (is_byte 10) text ≡ done ++ p ∷ [] → whole_lines text ≡ done
+whole_lines-last text done p h = ap without_last h ∙ without_last-last done p
+
+-- the lines: those that a line feed ends, and the last part unless it is empty
+pub lines-done : (text : List ℕ) (done : List (List ℕ)) (p : List ℕ) → parts (is_byte 10) text ≡ done ++ p ∷ [] → lines text ≡ done ++ without_empty_last (p ∷ [])
+lines-done text done p h = ap without_empty_last h ∙ without_empty_last-last done p
+
+-- the lines of a text that ends with a line feed, or is empty
+pub lines-ended : (text : List ℕ) (done : List (List ℕ)) → parts (is_byte 10) text ≡ done ++ [] ∷ [] → lines text ≡ done
+lines-ended text done h = lines-done text done [] h ∙ append-nil done
+
+-- the lines of a text whose last line has no line feed
+pub lines-open : (text : List ℕ) (done : List (List ℕ)) (p : List ℕ) → parts (is_byte 10) text ≡ done ++ p ∷ [] → 0 < length p → lines text ≡ done ++ p ∷ []
+lines-open text done p h some = lines-done text done p h ∙ ap (λ (ps : List (List ℕ)). done ++ ps) (without_empty_last-one p some)

@@ -1,4 +1,7 @@
 pub mod Examples
+pub mod FedLines
+pub mod FeedState
+pub mod Feeding
 pub mod Forms
 pub mod Grammar
 pub mod Numbers

@@ -32,6 +32,16 @@ is_byte separator b = nat_eq b separator
 abbrev pub lines : List ℕ → List (List ℕ)
 lines text = without_empty_last (parts (is_byte 10) text)
 
+-- all but the last part
+abbrev pub without_last : List (List ℕ) → List (List ℕ)
+without_last [] = []
+without_last (p ∷ []) = []
+without_last (p ∷ q ∷ ps) = p ∷ without_last (q ∷ ps)
+
+-- the lines of a text that a line feed ends: its parts without the last one
+abbrev pub whole_lines : List ℕ → List (List ℕ)
+whole_lines text = without_last (parts (is_byte 10) text)
+
 -- a space or a tab
 abbrev pub is_blank : ℕ → Bool
 is_blank b = nat_eq b 32 || nat_eq b 9

@@ -2,6 +2,7 @@
 #![tactic(auto)]
 
 mod examples;
+mod feed;
 mod forms;
 mod numbers;
 mod parts;
@@ -10,6 +11,7 @@ mod text;
 mod verbs;
 mod words;
 
+pub use feed::{Fed, LineFeed, nothing_is_left, pieces_give_the_lines};
 pub use heap_world::{Command, FieldList, Refusal, Reply, Verb};
 pub use numbers::count as read_count;
 pub use parts::split_line;
