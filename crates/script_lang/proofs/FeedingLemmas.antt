@@ -1,14 +1,14 @@
 -- What is ahead of a feed stays as it is from one call to the next.
-use Rattle.std.proofs.Common.{◌≡◌, ℕ, zero, suc, ◌+◌, ◌<◌, ◌≤◌, ◌⊎◌, inl, inr, Bool, true, false, cond, List, [], ◌∷◌, ◌++◌, Option, None, Some, length, take, drop, get_or, nat_eq, nat_le, refl, sym, ◌∙◌, ap, subst, arith, append_assoc, length-append}
+use Rattle.std.proofs.Common.{◌≡◌, ℕ, ◌+◌, ◌<◌, ◌≤◌, ◌⊎◌, inl, inr, Bool, true, false, List, [], ◌∷◌, ◌++◌, Option, None, Some, length, take, drop, nat_eq, nat_le, refl, sym, ◌∙◌, ap, subst, arith, append_assoc, length-append}
 use Rattle.std.proofs.lemmas.List.{append-nil}
 use Rattle.std.proofs.Math.Seq.{take-append_seam, drop-append_seam, drop-length}
 use Rattle.std.proofs.lemmas.Bool.{le-leb}
 use Rattle.std.proofs.lemmas.Bool.Decides.{leb_tells}
 use Rattle.std.specs.Prelude.{if◌then◌else◌}
 use Rattle.script_lang.specs.Parts.{with_byte, parts, is_byte, without_empty_last, lines}
-use Rattle.script_lang.specs.Feeding.{kept_line, FedLine, Feed, first_of, behind_first, is_any, first_part, has_line_feed, taken, grown, has_bytes, after_feeding, after_end, at_next, line_at, numbered, going_on, ahead}
+use Rattle.script_lang.specs.Feeding.{kept_line, FedLine, Feed, first_of, behind_first, is_any, first_part, has_line_feed, taken, grown, after_feeding, line_at, numbered, going_on, ahead}
 use Rattle.script_lang.specs.FeedState.{IsOneLine}
-use Rattle.script_lang.proofs.PartsLemmas.{parts-some, parts-append, lines-first, without_empty_last-one}
+use Rattle.script_lang.proofs.PartsLemmas.{parts-some, parts-append, lines-first}
 
 -- bytes of one line: they have no line feed
 abbrev pub OnePart : List ℕ → Type 0

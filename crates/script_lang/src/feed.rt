@@ -1,4 +1,4 @@
-ghost use Rattle.std.specs.Prelude.{◌≡◌, ◌<◌, ◌≤◌, ◌+◌, ◌-◌, ◌^◌, ◌∷◌, ◌++◌, [], ℕ, List, true, false, length, take, drop, Some, IfOk, IfSome, MatchOption, if◌then◌else◌};
+ghost use Rattle.std.specs.Prelude.{◌≡◌, ◌<◌, ◌≤◌, ◌+◌, ◌-◌, ◌^◌, ◌∷◌, ◌++◌, [], ℕ, List, true, false, length, take, drop, Some, IfOk, OnOk, IfSome, MatchOption, if◌then◌else◌};
 ghost use Rattle.std.specs.Option.{option_copied};
 ghost use Rattle.script_lang.specs.Parts.{lines};
 ghost use Rattle.script_lang.specs.Feeding.{kept_line, fresh_feed, first_part, has_line_feed, taken, grown, has_bytes, after_feeding, after_end, at_next, line_at, numbered, ahead};
@@ -264,12 +264,10 @@ mod tests {
     }
 
     // The lines that come of a text in pieces of this size.
-    fn lines_by(alloc: Global, text: &[u8], size: usize) -> Result<Lines, AllocError>
-        requires { 0 < size }
-    {
+    fn lines_by(alloc: Global, text: &[u8], size: usize) -> Result<Lines, AllocError> {
         let mut feed = LineFeed::new(alloc)?;
         let mut lines = Vec::new(alloc);
-        for piece in text.chunks(size) {
+        for piece in text.chunks(size.max(1)) {
             feed_piece(alloc, &mut feed, piece, &mut lines)?;
         }
         feed.end();
@@ -282,19 +280,18 @@ mod tests {
         let alloc = rt.alloc();
         let longest = vec![in alloc; b'a'; 4_096]?;
         let too_long = vec![in alloc; b'b'; 4_097]?;
-        // each line, and whether it is kept
-        let parts: [(&[u8], bool); 6] = [
-            (b"first\r", true),
-            (b"", true),
-            (&longest, true),
-            (&too_long, false),
-            (b"", true),
-            (b"last", true),
+        // each line's number, its bytes, and whether they are kept
+        let table: [(u64, &[u8], bool); 6] = [
+            (1, b"first\r", true),
+            (2, b"", true),
+            (3, &longest, true),
+            (4, &too_long, false),
+            (5, b"", true),
+            (6, b"last", true),
         ];
         let mut text = Vec::new(alloc);
         let mut expected = Vec::new(alloc);
-        let mut number = 1;
-        for (part, is_kept) in parts {
+        for (number, part, is_kept) in table {
             if number > 1 {
                 text.push(b'\n')?;
             }
@@ -305,7 +302,6 @@ mod tests {
                 None
             };
             expected.push((number, kept))?;
-            number += 1;
         }
         // the last line has no line feed, then one, and then a blank line follows
         for size in [1, 2, 3, 7, 20_000] {
