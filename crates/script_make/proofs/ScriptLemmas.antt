@@ -1,5 +1,5 @@
 -- Lines that go on, and how many there are.
-use Rattle.std.proofs.Common.{◌≡◌, ℕ, zero, suc, ◌∷◌, ◌+◌, ◌++◌, length, refl, ap, zero-add, suc-add, arith}
+use Rattle.std.proofs.Common.{◌≡◌, ℕ, zero, suc, ◌∷◌, ◌+◌, ◌++◌, length, refl, ap, zero-add, suc-add}
 use Rattle.script_make.specs.Lines.{made_line, next_state}
 use Rattle.script_make.specs.Script.{made_lines, state_after}
 use Rattle.script_make.specs.declared.state.MakeState.{MakeState}

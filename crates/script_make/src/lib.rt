@@ -14,6 +14,6 @@ mod state;
 mod tests;
 
 pub use boot::boot_line;
-pub use laws::{lines_go_on, script_has_count_lines};
+pub use laws::{lines_go_on, lines_have_no_line_feed, script_has_count_lines};
 pub use lines::line_of;
 pub use state::MakeState;

@@ -2,4 +2,4 @@ use Rattle.std.proofs.Common.{◌<◌, ◌≤◌}
 use Rattle.script_make.proofs.tests.five_thousand_lines.Given as goal
 
 abbrev pub invariant-loop : goal.invariant-loop
-invariant-loop l = (l.state.x < 2147483648) × (l.state.forks ≤ 6)
+invariant-loop g l = (l.state.x < 2147483648) × (l.state.forks ≤ 6)
