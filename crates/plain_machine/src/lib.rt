@@ -4,6 +4,7 @@
 
 mod act;
 mod cards;
+mod counts;
 mod frames;
 mod lives;
 mod machine;
