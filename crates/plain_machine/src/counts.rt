@@ -1,10 +1,11 @@
 //! Who lives, and how many objects the live processes have.
-ghost use Rattle.std.specs.Prelude.{◌≡◌, [], ◌∷◌, length, map, not, sum};
+ghost use Rattle.std.specs.Prelude.{◌≡◌, ℕ, List, [], ◌∷◌, is_some, length, map, not, sum};
 ghost use Rattle.std.specs.List.{list_any};
 ghost use Rattle.std.specs.Option.{option_copied};
 ghost use Rattle.class_layout.specs.Names.{same_name};
-ghost use Rattle.heap_world.specs.World.{live, process_named};
-ghost use Rattle.plain_machine.specs.Counts.{objects_in};
+ghost use Rattle.heap_world.specs.World.{World, live, process_named};
+ghost use Rattle.plain_machine.specs.Counts.{objects_in, objects_of};
+ghost use Rattle.plain_machine.specs.Counts as counts;
 
 use crate::process::Process;
 use class_layout::Name;
@@ -14,6 +15,11 @@ fn lives(process: &Process) -> bool
 {
     !process.part.exited
 }
+
+/// A live process of a name has a count of objects, and no other name has one.
+pub fn live_processes_have_counts()
+    ensures { (w : World) → (name : List ℕ) → is_some (objects_of w name) ≡ counts.is_live w name }
+{}
 
 /// The live process of a name.
 pub(crate) fn live_named<'a>(processes: &'a [Process], name: &Name) -> Option<&'a Process>

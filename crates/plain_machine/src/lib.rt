@@ -17,4 +17,5 @@ mod reads;
 mod slots;
 mod stores;
 
+pub use counts::live_processes_have_counts;
 pub use machine::Machine;
