@@ -1,5 +1,6 @@
 pub mod Objects
 pub mod Collected
+pub mod LiveObjects
 pub mod Labels
 pub mod Live
 pub mod Making

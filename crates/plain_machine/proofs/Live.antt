@@ -10,7 +10,8 @@ use Rattle.heap_world.specs.Sound.{IsSound}
 use Rattle.heap_world.specs.World.{Process, distinct_labels, keep_label, live, same_label, standing_labels}
 use Rattle.plain_machine.specs.Worlds.{AreSound}
 
-live-append : (qs rs : List Process) → live (qs ++ rs) ≡ live qs ++ live rs
+-- the live ones of two lists
+pub live-append : (qs rs : List Process) → live (qs ++ rs) ≡ live qs ++ live rs
 live-append [] rs = refl
 live-append (q ∷ qs) rs = by (not q.part.exited) (live-append qs rs)
   where

@@ -4,6 +4,7 @@
 
 mod act;
 mod cards;
+mod counts;
 mod frames;
 mod lives;
 mod machine;
@@ -16,4 +17,5 @@ mod reads;
 mod slots;
 mod stores;
 
+pub use counts::live_processes_have_counts;
 pub use machine::Machine;

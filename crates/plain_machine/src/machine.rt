@@ -9,8 +9,10 @@ ghost use Rattle.heap_world.specs.Isolation.{is_frames};
 ghost use Rattle.heap_world.specs.World as worlds;
 ghost use Rattle.heap_world.specs.declared.reply.Reply.{Reply};
 ghost use Rattle.heap_world.specs.Acts.{act};
+ghost use Rattle.plain_machine.specs.Counts as counts;
 ghost use Rattle.plain_machine.specs.Worlds.{Does, StandsFor, forked_child};
 
+use crate::counts::{is_live, live_count, live_named, live_objects, objects_in};
 use crate::frames::frame_count;
 use crate::part::Part;
 use crate::process::Process;
@@ -258,5 +260,48 @@ impl Machine {
         ensures err { (w : World) → StandsFor self.old w → OnErr result (StandsFor self.new w) }
     {
         self.step_line(line, command)
+    }
+
+    /// Whether a live process has the name.
+    #[tactic(auto, unfolding(crate::specs::Worlds::StandsFor))]
+    pub fn is_live(&self, process: &Name) -> bool
+        ensures { (w : World) → StandsFor self.now w → result ≡ counts.is_live w process.now }
+    {
+        is_live(&self.processes, process)
+    }
+
+    /// How many processes live.
+    #[tactic(auto, unfolding(crate::specs::Worlds::StandsFor))]
+    pub fn live_count(&self) -> usize
+        ensures { (w : World) → StandsFor self.now w → result ≡ counts.live_count w }
+    {
+        live_count(&self.processes)
+    }
+
+    /// How many objects a live process has. `None` comes exactly where no live process has the name.
+    #[tactic(auto, unfolding(crate::specs::Worlds::StandsFor))]
+    pub fn object_count(&self, process: &Name) -> Option<usize>
+        ensures { (w : World) → StandsFor self.now w → result ≡ counts.objects_of w process.now }
+    {
+        let q = live_named(&self.processes, process)?;
+        Some(objects_in(q))
+    }
+
+    /// How many objects all live processes have together.
+    #[tactic(auto, unfolding(crate::specs::Worlds::StandsFor))]
+    pub fn objects(&self) -> u128
+        ensures { (w : World) → StandsFor self.now w → result ≡ counts.live_objects w }
+    {
+        live_objects(&self.processes)
+    }
+
+    /// How many frames are in use. To count them takes memory. A count beyond the range of u64 is answered as want of
+    /// memory.
+    #[tactic(auto, unfolding(crate::specs::Worlds::StandsFor))]
+    pub fn frames_used(&self) -> Result<u64, AllocError>
+        ensures { (w : World) → StandsFor self.now w → IfOk result (λ n. n ≡ frame_count w) }
+    {
+        let frames = frame_count(self.alloc, &self.processes)?;
+        Ok(frames)
     }
 }

@@ -1,1 +1,5 @@
+pub mod Boot
+pub mod Draws
+pub mod Examples
 pub mod Lines
+pub mod Script

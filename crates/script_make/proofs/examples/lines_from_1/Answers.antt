@@ -1,0 +1,7 @@
+use Rattle.std.proofs.Common.{refl}
+use Rattle.std.specs.Fmt.{digits}
+use Rattle.script_make.proofs.examples.lines_from_1.Goals as goal
+
+pub returns : goal.returns
+unfolding digits
+returns c = refl
