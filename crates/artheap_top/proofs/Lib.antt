@@ -1,3 +1,8 @@
 pub mod InputLemmas
 pub mod Outside
+pub mod OwnAlone
+pub mod OwnCommands
+pub mod OwnText
+pub mod OwnTold
+pub mod Picked
 pub mod RunLemmas

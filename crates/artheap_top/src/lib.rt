@@ -3,11 +3,13 @@
 
 mod examples;
 mod input;
+mod laws;
 mod run;
 mod status;
 mod top;
 mod words;
 
+pub use laws::{commands_are_answered, scripts_are_isolated};
 pub use plain_machine::Machine;
 pub use status::Status;
 pub use top::artheap;
