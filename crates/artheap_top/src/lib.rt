@@ -4,6 +4,7 @@
 mod examples;
 mod input;
 mod laws;
+mod own_examples;
 mod run;
 mod status;
 mod top;
