@@ -1,1 +1,7 @@
+pub mod Outside
+pub mod OwnAlone
+pub mod OwnCommands
+pub mod OwnText
+pub mod OwnTold
+pub mod Picked
 pub mod Reports

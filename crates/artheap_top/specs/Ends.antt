@@ -6,7 +6,7 @@ use Rattle.artheap_top.specs.declared.status.Status.TheVariants as status
 use Rattle.heap_world.specs.World.{World}
 use Rattle.plain_machine.specs.Worlds.{StandsFor}
 use Rattle.script_lang.specs.Parts.{lines, whole_lines}
-use Rattle.script_make.specs.Lines.{soak_lines}
+use Rattle.script_make.specs.Script.{soak_lines}
 use Rattle.artheap_top.specs.Report.{answers_of, has_refusal, line_report, report_of, world_of}
 use Rattle.artheap_top.specs.Summary.{summary}
 

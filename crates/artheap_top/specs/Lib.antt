@@ -1,4 +1,5 @@
 pub mod Ends
+pub mod Own
 pub mod Progress
 pub mod Report
 pub mod Status

@@ -4,8 +4,9 @@ use Rattle.heap_world.specs.declared.reply.Reply.{Reply}
 use Rattle.heap_world.specs.declared.reply.Reply.TheVariants as reply
 use Rattle.heap_world.specs.Effect.{is_refusal}
 use Rattle.heap_world.specs.Run.{Answer}
-use Rattle.heap_world.specs.World.{World, live, frame_count}
-use Rattle.script_make.specs.Lines.{soak_lines}
+use Rattle.heap_world.specs.World.{World, frame_count}
+use Rattle.plain_machine.specs.Counts.{live_count, live_objects}
+use Rattle.script_make.specs.Script.{soak_lines}
 use Rattle.artheap_top.specs.Report.{answers_of, world_of}
 
 -- a process collected: the replies `#n gc` and `kept K freed F`
@@ -26,10 +27,6 @@ collection_count given = length (filter (λ a. tells_collection a.reply) given)
 abbrev pub summary_line : List ℕ → ℕ → List ℕ
 summary_line word n = word ++ codes " " ++ decimal n ++ codes "\n"
 
--- stub
-abbrev pub object_sum : World → ℕ
-object_sum w = 0
-
 -- the words of the call, the lines, what their answers tell, and what the last world holds
 abbrev pub summary_of : ℕ → ℕ → List (List ℕ) → List Answer → World → List ℕ
 summary_of start count ls given w =
@@ -37,8 +34,8 @@ summary_of start count ls given w =
     ++ summary_line (codes "lines") (length ls)
     ++ summary_line (codes "refused") (refusal_count given)
     ++ summary_line (codes "collections") (collection_count given)
-    ++ summary_line (codes "processes") (length (live w.processes))
-    ++ summary_line (codes "objects") (object_sum w)
+    ++ summary_line (codes "processes") (live_count w)
+    ++ summary_line (codes "objects") (live_objects w)
     ++ summary_line (codes "frames") (frame_count w)
 
 -- the summary of the script that the generator makes of two numbers, for processes with this budget of regions

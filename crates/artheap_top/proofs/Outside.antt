@@ -1,0 +1,32 @@
+-- What two calls of the outside give and gain together.
+use Rattle.std.proofs.Common.{◌≡◌, ℕ, ◌+◌, ◌≤◌, List, [], ◌++◌, Option, None, Some, length, take, refl, sym, ◌∙◌, ap, arith, append_assoc, length-take}
+use Rattle.std.specs.Option.{option_map}
+use Rattle.std.proofs.lemmas.List.{take-append-le}
+use Rattle.std.proofs.Math.Seq.{take-append-add}
+use borrow.Rule.Slice.PartMut.{put_mid, post_of}
+use Rattle.ah_outside.specs.Outside.{Gave, Gained}
+
+-- bytes and then more bytes
+pub Gave-more : (old : Option (List ℕ)) (xs : List ℕ) (mid : Option (List ℕ)) (ys : List ℕ) (new : Option (List ℕ)) → Gave old xs mid → Gave mid ys new → Gave old (xs ++ ys) new
+Gave-more old xs mid ys None a b = a ∙ ap (option_map (λ rest. xs ++ rest)) b
+Gave-more old xs mid ys (Some rest) a b =
+    let e : (xs ++ ys) ++ rest ≡ xs ++ (ys ++ rest) = append_assoc xs ys rest in
+    a ∙ (ap (option_map (λ rest. xs ++ rest)) b ∙ ap Some (sym e))
+
+pub Gained-more : (old : Option (List ℕ)) (xs : List ℕ) (mid : Option (List ℕ)) (ys : List ℕ) (new : Option (List ℕ)) → Gained old xs mid → Gained mid ys new → Gained old (xs ++ ys) new
+Gained-more None xs mid ys new a b = b ∙ ap (option_map (λ held. held ++ ys)) a
+Gained-more (Some held) xs mid ys new a b =
+    let e : (held ++ xs) ++ ys ≡ held ++ (xs ++ ys) = append_assoc held xs ys in
+    b ∙ (ap (option_map (λ held. held ++ ys)) a ∙ ap Some e)
+
+-- nothing was given
+pub Gave-none : (old : Option (List ℕ)) → Gave old [] old
+Gave-none None = refl
+Gave-none (Some rest) = refl
+
+-- what was written behind the first bytes follows them
+pub take-written : (a k n : ℕ) (xs ys : List ℕ) → a ≤ length xs → n ≤ length ys → take (a + n) (put_mid a k xs ys) ≡ take a xs ++ take n ys
+take-written a k n xs ys in_xs in_ys =
+    let len : length (take a xs) ≡ a = omega (arith, length-take a xs) in
+    ap (λ i. take (i + n) (put_mid a k xs ys)) (sym len)
+    ∙ (take-append-add (take a xs) (ys ++ post_of a k xs) n ∙ ap (λ zs. take a xs ++ zs) (take-append-le n ys (post_of a k xs) in_ys))
