@@ -5,3 +5,6 @@ pub mod OwnText
 pub mod OwnTold
 pub mod Picked
 pub mod Reports
+pub mod Runs
+pub mod Taken
+pub mod Turns

@@ -1,10 +1,11 @@
 -- What two calls of the outside give and gain together.
-use Rattle.std.proofs.Common.{◌≡◌, ℕ, ◌+◌, ◌≤◌, List, [], ◌++◌, Option, None, Some, length, take, refl, sym, ◌∙◌, ap, arith, append_assoc, length-take}
+use Rattle.std.proofs.Common.{◌≡◌, inl, inr, ℕ, ◌+◌, ◌≤◌, List, [], ◌++◌, Option, None, Some, length, take, refl, sym, ◌∙◌, ap, arith, append_assoc, length-take}
 use Rattle.std.specs.Option.{option_map}
+use Rattle.std.proofs.lemmas.Bool.{cases_lt}
 use Rattle.std.proofs.lemmas.List.{take-append-le}
 use Rattle.std.proofs.Math.Seq.{take-append-add}
 use borrow.Rule.Slice.PartMut.{put_mid, post_of}
-use Rattle.ah_outside.specs.Outside.{Gave, Gained}
+use Rattle.ah_outside.specs.Outside.{FaultRose, Gave, Gained}
 
 -- bytes and then more bytes
 pub Gave-more : (old : Option (List ℕ)) (xs : List ℕ) (mid : Option (List ℕ)) (ys : List ℕ) (new : Option (List ℕ)) → Gave old xs mid → Gave mid ys new → Gave old (xs ++ ys) new
@@ -30,3 +31,8 @@ take-written a k n xs ys in_xs in_ys =
     let len : length (take a xs) ≡ a = omega (arith, length-take a xs) in
     ap (λ i. take (i + n) (put_mid a k xs ys)) (sym len)
     ∙ (take-append-add (take a xs) (ys ++ post_of a k xs) n ∙ ap (λ zs. take a xs ++ zs) (take-append-le n ys (post_of a k xs) in_ys))
+
+-- a fault in a later part of a call is one of the call
+pub FaultRose-earlier : (before mid now : ℕ) → before ≤ mid → mid ≤ now → FaultRose mid now → FaultRose before now
+FaultRose-earlier before mid now a b (inl rose) = inl (omega arith)
+FaultRose-earlier before mid now a b (inr full) = elim (cases_lt before mid) [ inl lt ↦ inl (omega arith) | inr ge ↦ inr (omega arith) ]

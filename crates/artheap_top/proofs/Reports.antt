@@ -1,5 +1,13 @@
 -- One more line behind others: its answer, its report, its refusal, the world after it.
-use Rattle.std.proofs.Common.{◌≡◌, ℕ, ◌+◌, ◌||◌, Bool, List, [], ◌∷◌, ◌++◌, Option, None, Some, length, refl, sym, ◌∙◌, ap, arith}
+use Rattle.std.proofs.Common.{◌≡◌, ℕ, ◌+◌, ◌||◌, Bool, true, false, List, [], ◌∷◌, ◌++◌, Option, None, Some, length, take, refl, sym, ◌∙◌, ap, subst, arith}
+use Rattle.std.proofs.lemmas.List.{append-nil}
+use Rattle.ah_outside.specs.Outside.{Gained}
+use Rattle.plain_machine.specs.Worlds.{StandsFor}
+use Rattle.artheap_top.specs.declared.stop.Stop.{Stop}
+use Rattle.artheap_top.specs.declared.stop.Stop.TheVariants.{Read, Write, Memory, TooLong}
+use Rattle.artheap_top.specs.Ends.{RanLines}
+use Rattle.artheap_top.specs.Progress.{HasRunLines, PutInPart, RanLine, StoppedBehind, StoppedLine}
+use Rattle.artheap_top.proofs.Outside.{Gained-more}
 use Rattle.std.proofs.lemmas.Grind.{flat_map-append}
 use Rattle.std.proofs.lemmas.List.Folds.{list_any-append}
 use Rattle.heap_world.specs.declared.reply.Reply.{Reply}
@@ -55,3 +63,60 @@ refusal-more budget ls l =
 
 pub world-more : (budget : ℕ) (ls : List (List ℕ)) (l : List ℕ) → world_of budget (ls ++ l ∷ []) ≡ (step_line (world_of budget ls) (1 + length ls) l).world
 world-more budget ls l = world_after-more (first_world budget 1) 1 ls l
+
+-- the report of one answer is its line
+pub report_of-one : (n : ℕ) (r : Reply) → report_of (with_answer n (Some r) []) ≡ reply_line n r
+report_of-one n r = append-nil (reply_line n r)
+
+-- one answer holds a refusal where it is one
+pub has_refusal-one : (n : ℕ) (r : Reply) → has_refusal (with_answer n (Some r) []) ≡ is_refusal r
+has_refusal-one n r = or_none (is_refusal r)
+  where
+    or_none : (b : Bool) → (b || false) ≡ b
+    or_none true = refl
+    or_none false = refl
+
+-- the reply of a line was put whole
+pub put_whole : (n : ℕ) (o : Option Reply) (r : Reply) (after machine : World) (refused : Bool) (g g' : Option (List ℕ))
+    → o ≡ Some r → Gained g (reply_line n r) g' → refused ≡ is_refusal r → StandsFor machine after
+    → RanLine (with_answer n o []) after refused g g' machine
+put_whole n o r after machine refused g g' is told same stands = record {
+  report = subst (λ (xs : List ℕ). Gained g xs g') (sym (report_of-one n r) ∙ ap (λ p. report_of (with_answer n p [])) (sym is)) told;
+  refusals = ap (λ p. has_refusal (with_answer n p [])) is ∙ (has_refusal-one n r ∙ sym same);
+  stands = stands;
+}
+
+-- a line was run behind others
+pub runs_behind : (budget : ℕ) (before : List (List ℕ)) (line : List ℕ) (n : ℕ) (refused now : Bool) (g g1 g2 : Option (List ℕ)) (machine machine' : World)
+    → HasRunLines budget before refused g g1 machine → n ≡ 1 + length before
+    → RanLine (with_answer n (step_line (world_of budget before) n line).reply []) (step_line (world_of budget before) n line).world now g1 g2 machine'
+    → HasRunLines budget (before ++ line ∷ []) (refused || now) g g2 machine'
+runs_behind budget before line n refused now g g1 g2 machine machine' had is ran =
+    let at : ℕ → Type 0 = λ k. RanLine (with_answer k (step_line (world_of budget before) k line).reply []) (step_line (world_of budget before) k line).world now g1 g2 machine' in
+    let next : at (1 + length before) = subst at is ran in
+    record {
+      ran = record {
+        report = subst (λ (xs : List ℕ). Gained g xs g2) (sym (report-more budget before line))
+            (Gained-more g (report_of (answers_of budget before)) g1 (line_report budget before line) g2 had.ran.report next.report);
+        stands = subst (StandsFor machine') (sym (world-more budget before line)) next.stands;
+      };
+      refusals = refusal-more budget before line ∙ (ap (λ b. b || has_refusal (next_answers budget before line)) had.refusals ∙ ap (λ b. refused || b) next.refusals);
+    }
+
+-- a line stopped behind others
+pub stops_behind : (stop : Stop) (budget : ℕ) (before : List (List ℕ)) (line : List ℕ) (n : ℕ) (refused : Bool) (f f' : ℕ) (g g1 g2 : Option (List ℕ)) (machine machine' : World)
+    → HasRunLines budget before refused g g1 machine → n ≡ 1 + length before
+    → StoppedLine stop (with_answer n (step_line (world_of budget before) n line).reply []) (step_line (world_of budget before) n line).world f f' g1 g2 machine'
+    → StoppedBehind stop budget before line f f' g g2 machine'
+stops_behind Read budget before line n refused f f' g g1 g2 machine machine' had is stopped = absurd stopped
+stops_behind Write budget before line n refused f f' g g1 g2 machine machine' had is stopped =
+    let at : ℕ → Type 0 = λ k. PutInPart (with_answer k (step_line (world_of budget before) k line).reply []) (step_line (world_of budget before) k line).world g1 g2 machine' in
+    let part : at (1 + length before) = subst at is stopped.0 in
+    (record {
+      told = part.told;
+      report = Gained-more g (report_of (answers_of budget before)) g1 (take part.told (line_report budget before line)) g2 had.ran.report part.report;
+      stands = subst (StandsFor machine') (sym (world-more budget before line)) part.stands;
+    }, stopped.1)
+stops_behind Memory budget before line n refused f f' g g1 g2 machine machine' had is stopped =
+    subst (λ o. Gained g (report_of (answers_of budget before)) o) (sym stopped) had.ran.report
+stops_behind TooLong budget before line n refused f f' g g1 g2 machine machine' had is stopped = absurd stopped

@@ -10,7 +10,7 @@ use Rattle.artheap_top.specs.declared.stop.Stop.{Stop}
 use Rattle.artheap_top.specs.declared.stop.Stop.TheVariants.{Read, Write, Memory, TooLong}
 use Rattle.artheap_top.specs.declared.status.Status.{Status}
 use Rattle.artheap_top.specs.declared.status.Status.TheVariants as status
-use Rattle.artheap_top.specs.Ends.{RanLines, input_limit}
+use Rattle.artheap_top.specs.Ends.{RanLines, input_limit, piece_limit}
 use Rattle.artheap_top.specs.Report.{answers_of, has_refusal, line_report, report_of, world_of}
 
 -- the status of a job that stopped
@@ -94,3 +94,29 @@ pub record HasTaken (budget : ℕ) (room : ℕ) (feed : Feed) (refused : Bool) (
   pub gave : Gave left text left'
   pub fits : length text + room ≡ input_limit
   pub has_run : HasRun budget text feed refused gained gained' machine
+
+-- a feed that takes bytes: its line isn't whole, nor its text ended, and its lines are few enough for their numbers
+pub record IsGoing (feed : Feed) (room : ℕ) : Type 0 where
+  pub unfinished : feed.whole ≡ false
+  pub not_ended : feed.ended ≡ false
+  pub few : feed.number + room ≤ 1 + input_limit
+
+-- a text has more bytes than are allowed, by one piece at most, and the lines whose line feed is within the limit were run
+pub record HasTooMany (budget : ℕ) (text : List ℕ) (gained gained' : Option (List ℕ)) (machine : World) : Type 0 where
+  pub too_many : input_limit < length text
+  pub barely : length text ≤ input_limit + piece_limit
+  pub ran : RanLines budget (whole_lines (take input_limit text)) gained gained' machine
+
+-- why the bytes that were taken weren't all run
+abbrev pub StoppedTaken : Stop → ℕ → List ℕ → ℕ → ℕ → Option (List ℕ) → Option (List ℕ) → World → Type 0
+StoppedTaken Read budget text faults faults' gained gained' machine = ⊥
+StoppedTaken Write budget text faults faults' gained gained' machine = StoppedIn budget text piece_limit Write faults faults' gained gained' machine
+StoppedTaken Memory budget text faults faults' gained gained' machine = StoppedIn budget text piece_limit Memory faults faults' gained gained' machine
+StoppedTaken TooLong budget text faults faults' gained gained' machine = HasTooMany budget text gained gained' machine
+
+-- why the last line wasn't run
+pub record StoppedLast (budget : ℕ) (text : List ℕ) (stop : Stop) (faults faults' : ℕ) (gained gained' : Option (List ℕ)) (machine : World) : Type 0 where
+  pub before : List (List ℕ)
+  pub line : List ℕ
+  pub got : lines text ≡ before ++ line ∷ []
+  pub stopped : StoppedBehind stop budget before line faults faults' gained gained' machine

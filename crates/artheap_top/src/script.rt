@@ -1,11 +1,11 @@
 //! A script from a source: its lines are run as they come.
-ghost use Rattle.std.specs.Prelude.{◌≡◌, ◌+◌, ◌<◌, ◌≤◌, ◌^◌, ◌||◌, ◌++◌, ◌∷◌, [], ℕ, List, Option, true, false, length, take, MatchResult, IfOk, OnOk};
+ghost use Rattle.std.specs.Prelude.{◌≡◌, ◌+◌, ◌-◌, ◌<◌, ◌≤◌, ◌^◌, ◌||◌, ◌++◌, ◌∷◌, [], ℕ, Bool, List, Option, Ok, true, false, length, take, MatchResult, IfOk, OnOk};
 ghost use Rattle.script_lang.specs.Feeding.{at_next, kept_line};
-ghost use Rattle.script_lang.specs.Parts.{is_byte, parts};
-ghost use Rattle.heap_world.specs.World.{empty_world, first_world};
+ghost use Rattle.script_lang.specs.Parts.{lines};
+ghost use Rattle.heap_world.specs.World.{empty_world};
 ghost use Rattle.plain_machine.specs.Worlds.{StandsFor};
-ghost use Rattle.artheap_top.specs.Ends.{EndedRun, NothingLeft, RanToEnd, input_limit, piece_limit};
-ghost use Rattle.artheap_top.specs.Progress.{HasRun, HasRunLines, HasTaken, StoppedBehind, StoppedIn, job_status, stop_status};
+ghost use Rattle.artheap_top.specs.Ends.{EndedRun, NothingLeft, input_limit, piece_limit};
+ghost use Rattle.artheap_top.specs.Progress.{HasRun, HasRunLines, HasTaken, IsGoing, StoppedBehind, StoppedIn, StoppedLast, StoppedTaken, job_status, stop_status};
 
 use crate::Machine;
 use crate::step::run_fed;
@@ -98,8 +98,133 @@ fn run_piece<W: Sink>(
 }
 
 /// Where a run is: the feed of its lines, how many more bytes may be taken, and whether a reply was a refusal.
+#[derive(Drop)]
 struct Progress {
     feed: LineFeed,
     room: usize,
     refused: bool,
+}
+
+/// Runs the lines that the bytes taken last end, and counts these bytes.
+fn run_taken<W: Sink>(
+    alloc: Global,
+    taken: &[u8],
+    run: &mut Progress,
+    sink: &mut W,
+    machine: &mut Machine,
+) -> Result<(), Stop>
+    requires going { IsGoing run.old.feed run.old.room }
+    requires piece { length taken.now ≤ piece_limit }
+    requires room { run.old.room ≤ input_limit }
+    ensures going { OnOk result (IsGoing run.new.feed run.new.room) }
+    ensures room { OnOk result (run.new.room + length taken.now ≡ run.old.room) }
+    ensures done { (budget : ℕ) (text : List ℕ) (gained : Option (List ℕ)) → length text + run.old.room ≡ input_limit →
+        HasRun budget text run.old.feed run.old.refused gained (W.gained sink.old) machine.old → MatchResult result
+        (λ _. HasRun budget (text ++ taken.now) run.new.feed run.new.refused gained (W.gained sink.new) machine.new)
+        (λ stop. StoppedTaken stop budget (text ++ taken.now) (W.fault_count sink.old) (W.fault_count sink.new) gained (W.gained sink.new) machine.new) }
+    ensures never_falls { W.fault_count sink.old ≤ W.fault_count sink.new }
+{
+    let within = taken.len().min(run.room);
+    run.refused |= run_piece(alloc, &taken[..within], &mut run.feed, sink, machine)?;
+    if within < taken.len() {
+        return Err(Stop::TooLong);
+    }
+    run.room -= within;
+    Ok(())
+}
+
+/// Takes a piece of the input and runs the lines that it ends. Tells whether there may be more.
+fn turn<S: Source, W: Sink>(
+    alloc: Global,
+    source: &mut S,
+    buf: &mut [u8],
+    run: &mut Progress,
+    sink: &mut W,
+    machine: &mut Machine,
+) -> Result<bool, Stop>
+    requires some { 0 < length buf.old }
+    requires piece { length buf.old ≤ piece_limit }
+    requires going { IsGoing run.old.feed run.old.room }
+    requires room { run.old.room ≤ input_limit }
+    ensures buf { length buf.new ≡ length buf.old }
+    ensures going { OnOk result (IsGoing run.new.feed run.new.room) }
+    ensures room { IfOk result (λ more. (run.new.room ≤ run.old.room) × (more ≡ true → run.new.room < run.old.room)) }
+    ensures done { (budget : ℕ) (left gained : Option (List ℕ)) →
+        HasTaken budget run.old.room run.old.feed run.old.refused left (S.left source.old) gained (W.gained sink.old) machine.old → MatchResult result
+        (λ more. HasTaken budget run.new.room run.new.feed run.new.refused left (S.left source.new) gained (W.gained sink.new) machine.new × (more ≡ false → NothingLeft (S.left source.new)))
+        (λ stop. EndedRun budget (stop_status stop) left (S.left source.new) (S.fault_count source.old) (S.fault_count source.new) gained (W.gained sink.new) (W.fault_count sink.old) (W.fault_count sink.new) machine.new) }
+    ensures source_faults { S.fault_count source.old ≤ S.fault_count source.new }
+    ensures sink_faults { W.fault_count sink.old ≤ W.fault_count sink.new }
+{
+    let Ok(count) = source.take(buf) else {
+        return Err(Stop::Read);
+    };
+    run_taken(alloc, &buf[..count], run, sink, machine)?;
+    Ok(count > 0)
+}
+
+/// Takes the input and runs its lines as they come, but for a last line without a line feed.
+fn run_lines<S: Source, W: Sink>(
+    alloc: Global,
+    source: &mut S,
+    run: &mut Progress,
+    sink: &mut W,
+    machine: &mut Machine,
+) -> Result<(), Stop>
+    requires going { IsGoing run.old.feed run.old.room }
+    requires room { run.old.room ≤ input_limit }
+    ensures going { OnOk result (IsGoing run.new.feed run.new.room) }
+    ensures done { (budget : ℕ) (left gained : Option (List ℕ)) →
+        HasTaken budget run.old.room run.old.feed run.old.refused left (S.left source.old) gained (W.gained sink.old) machine.old → MatchResult result
+        (λ _. HasTaken budget run.new.room run.new.feed run.new.refused left (S.left source.new) gained (W.gained sink.new) machine.new × NothingLeft (S.left source.new))
+        (λ stop. EndedRun budget (stop_status stop) left (S.left source.new) (S.fault_count source.old) (S.fault_count source.new) gained (W.gained sink.new) (W.fault_count sink.old) (W.fault_count sink.new) machine.new) }
+    ensures source_faults { S.fault_count source.old ≤ S.fault_count source.new }
+    ensures sink_faults { W.fault_count sink.old ≤ W.fault_count sink.new }
+{
+    let mut buf = [0; PIECE_BYTES];
+    while turn(alloc, source, &mut buf, run, sink, machine)? {}
+    Ok(())
+}
+
+/// Runs the last line, if it came without a line feed, and tells whether a reply of the run was a refusal.
+fn run_last<W: Sink>(
+    alloc: Global,
+    run: &mut Progress,
+    sink: &mut W,
+    machine: &mut Machine,
+) -> Result<bool, Stop>
+    requires going { IsGoing run.old.feed run.old.room }
+    ensures done { (budget : ℕ) (text : List ℕ) (gained : Option (List ℕ)) →
+        HasRun budget text run.old.feed run.old.refused gained (W.gained sink.old) machine.old → MatchResult result
+        (λ refused. HasRunLines budget (lines text) refused gained (W.gained sink.new) machine.new)
+        (λ stop. StoppedLast budget text stop (W.fault_count sink.old) (W.fault_count sink.new) gained (W.gained sink.new) machine.new) }
+    ensures never_falls { W.fault_count sink.old ≤ W.fault_count sink.new }
+{
+    run.feed.end();
+    let last = run_whole(alloc, &mut run.feed, sink, machine)?;
+    Ok(run.refused | last)
+}
+
+/// Runs a script from the source on a new machine, and tells whether a reply was a refusal.
+pub(crate) fn run_script<S: Source, W: Sink>(
+    alloc: Global,
+    regions: u32,
+    source: &mut S,
+    sink: &mut W,
+    machine: &mut Machine,
+) -> Result<bool, Stop>
+    requires is_new { StandsFor machine.old empty_world }
+    requires few_regions { (1 ≤ regions) × (regions ≤ 512) }
+    ensures ended { EndedRun regions (job_status result) (S.left source.old) (S.left source.new) (S.fault_count source.old) (S.fault_count source.new) (W.gained sink.old) (W.gained sink.new) (W.fault_count sink.old) (W.fault_count sink.new) machine.new }
+    ensures source_faults { S.fault_count source.old ≤ S.fault_count source.new }
+    ensures sink_faults { W.fault_count sink.old ≤ W.fault_count sink.new }
+{
+    machine.prepare(regions, 1)?;
+    let mut run = Progress {
+        feed: LineFeed::new(alloc)?,
+        room: INPUT_LIMIT,
+        refused: false,
+    };
+    run_lines(alloc, source, &mut run, sink, machine)?;
+    run_last(alloc, &mut run, sink, machine)
 }
