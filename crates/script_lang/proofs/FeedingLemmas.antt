@@ -6,8 +6,8 @@ use Rattle.std.proofs.lemmas.Bool.{le-leb}
 use Rattle.std.proofs.lemmas.Bool.Decides.{leb_tells}
 use Rattle.std.specs.Prelude.{if◌then◌else◌}
 use Rattle.script_lang.specs.Parts.{with_byte, parts, is_byte, without_empty_last, lines}
-use Rattle.script_lang.specs.Feeding.{kept_line, FedLine, Feed, first_of, behind_first, is_any, first_part, has_line_feed, taken, grown, after_feeding, line_at, numbered, going_on, ahead}
-use Rattle.script_lang.specs.FeedState.{IsOneLine}
+use Rattle.script_lang.specs.Feeding.{kept_line, FedLine, Feed, first_of, behind_first, is_any, first_part, has_line_feed, taken, grown, has_bytes, after_feeding, after_end, at_next, line_at, numbered, going_on, ahead, fresh_feed, LinesCome, over, ends, feeds, hands}
+use Rattle.script_lang.specs.FeedState.{IsOneLine, IsEmptyAtEnd}
 use Rattle.script_lang.proofs.PartsLemmas.{parts-some, parts-append, lines-first}
 
 -- bytes of one line: they have no line feed
@@ -211,3 +211,47 @@ first_part-left piece p left h =
     let any : has_line_feed piece ≡ true = ap (λ (ps : List (List ℕ)). is_any (behind_first ps)) h ∙ is_any-parts left in
     let all : taken piece ≡ p ++ 10 ∷ [] = ap (λ (q : List ℕ). q ++ (if has_line_feed piece then 10 ∷ [] else [])) (ap first_of h) ∙ ap (λ (is : Bool). p ++ (if is then 10 ∷ [] else [])) any in
     (any, omega (arith, ap length all, length-append p (10 ∷ [])))
+
+-- what holds of every feed
+abbrev pub Stands : Feed → Type 0
+Stands feed = IsOneLine feed.kept × IsEmptyAtEnd feed.ended feed.whole feed.kept
+
+-- what is ahead of a feed whose line is whole, or isn't
+ahead-if : (feed : Feed) (text : List ℕ) (is : Bool) → feed.whole ≡ is → ahead feed text ≡ (if is then line_at feed ∷ numbered (feed.number + 1) (lines text) else going_on feed.number feed.kept text)
+ahead-if feed text is h = ap (λ (whole : Bool). if whole then line_at feed ∷ numbered (feed.number + 1) (lines text) else going_on feed.number feed.kept text) h
+
+-- no bytes
+no_bytes : (kept : Option (List ℕ)) → has_bytes kept ≡ false → kept ≡ Some []
+no_bytes None h = absurd (let no : true ≡ false = h in cc)
+no_bytes (Some []) h = refl
+no_bytes (Some (b ∷ bs)) h = absurd (let no : true ≡ false = h in cc)
+
+-- the end changes nothing of what is ahead
+going_on-end : (n : ℕ) (kept : Option (List ℕ)) → IsOneLine kept → going_on n kept [] ≡ (if has_bytes kept then record { number = n; kept = kept } ∷ [] else going_on n kept [])
+going_on-end n None one = refl
+going_on-end n (Some []) one = refl
+going_on-end n (Some (b ∷ bs)) one =
+    ap (λ (text : List ℕ). numbered n (lines text)) (append-nil (b ∷ bs))
+    ∙ ap (λ (ps : List (List ℕ)). numbered n (without_empty_last ps)) one.0
+    ∙ ap (λ (kept : Option (List ℕ)). record { number = n; kept = kept } ∷ []) (kept_line-short (b ∷ bs) one.1)
+
+-- the lines that come in a run are those that are ahead
+pub come-ahead : (feed : Feed) (text : List ℕ) (ls : List FedLine) → Stands feed → LinesCome feed text ls → ls ≡ ahead feed text
+come-ahead _ _ _ stands (over feed whole ended) =
+    sym (ahead-if feed [] false whole ∙ ap (λ (kept : Option (List ℕ)). going_on feed.number kept []) (stands.1 ended whole))
+come-ahead _ _ _ stands (ends feed ls whole ended more) =
+    come-ahead (after_end feed) [] ls (stands.0, λ _ h. no_bytes feed.kept h) more
+    ∙ sym (ahead-if feed [] false whole ∙ going_on-end feed.number feed.kept stands.0)
+come-ahead _ _ _ stands (feeds feed piece rest ls whole ended more) =
+    come-ahead (after_feeding feed piece) (drop (length (taken piece)) piece ++ rest) ls (
+      IsOneLine-grown feed.kept (first_part piece) stands.0 (OnePart-first_part piece),
+      λ is _. absurd (let no : true ≡ false = sym is ∙ ended in cc),
+    ) more
+    ∙ sym (ahead-feed feed piece rest whole stands.0)
+come-ahead _ _ _ stands (hands feed text ls whole more) =
+    ap (λ (rest : List FedLine). line_at feed ∷ rest) (come-ahead (at_next feed) text ls ((refl, omega arith), λ _ _. refl) more)
+    ∙ sym (ahead-if feed text true whole)
+
+-- at the start of a text its lines come
+pub come-lines : (text : List ℕ) (ls : List FedLine) → LinesCome fresh_feed text ls → ls ≡ numbered 1 (lines text)
+come-lines text ls come = come-ahead fresh_feed text ls ((refl, omega arith), λ _ _. refl) come

@@ -1,5 +1,5 @@
 -- How lines come from the pieces of a text.
-use Rattle.std.specs.Prelude.{ℕ, ◌+◌, Bool, true, false, List, [], ◌∷◌, ◌++◌, Option, None, Some, length, nat_le, if◌then◌else◌}
+use Rattle.std.specs.Prelude.{◌≡◌, ℕ, ◌+◌, Bool, true, false, List, [], ◌∷◌, ◌++◌, Option, None, Some, length, drop, nat_le, if◌then◌else◌}
 use Rattle.script_lang.specs.Parts.{parts, is_byte, without_empty_last, lines}
 
 -- a line of at most 4,096 bytes is kept, and of a longer one none
@@ -97,3 +97,14 @@ going_on n None text = record { number = n; kept = None } ∷ numbered (n + 1) (
 -- and no step changes what is ahead: so for every cutting into pieces the lines that come are those of the whole text
 abbrev pub ahead : Feed → List ℕ → List FedLine
 ahead feed text = if feed.whole then line_at feed ∷ numbered (feed.number + 1) (lines text) else going_on feed.number feed.kept text
+
+-- a whole run: from a feed, by the calls that its conditions allow, the text that is still to come gives these lines
+pub data LinesCome : Feed → List ℕ → List FedLine → Type 0 where
+  -- the text ended, and no line is whole: the run is over
+  over : (feed : Feed) → feed.whole ≡ false → feed.ended ≡ true → LinesCome feed [] []
+  -- the text has come, and ends
+  ends : (feed : Feed) (ls : List FedLine) → feed.whole ≡ false → feed.ended ≡ false → LinesCome (after_end feed) [] ls → LinesCome feed [] ls
+  -- any first bytes of the text are the next piece, and what isn't taken of it is still to come
+  feeds : (feed : Feed) (piece rest : List ℕ) (ls : List FedLine) → feed.whole ≡ false → feed.ended ≡ false → LinesCome (after_feeding feed piece) (drop (length (taken piece)) piece ++ rest) ls → LinesCome feed (piece ++ rest) ls
+  -- a whole line is handed out
+  hands : (feed : Feed) (text : List ℕ) (ls : List FedLine) → feed.whole ≡ true → LinesCome (at_next feed) text ls → LinesCome feed text (line_at feed ∷ ls)

@@ -1,7 +1,7 @@
 ghost use Rattle.std.specs.Prelude.{◌≡◌, ◌<◌, ◌≤◌, ◌+◌, ◌-◌, ◌^◌, ◌∷◌, ◌++◌, [], ℕ, List, true, false, length, take, drop, Some, IfOk, OnOk, IfSome, MatchOption, if◌then◌else◌};
 ghost use Rattle.std.specs.Option.{option_copied};
 ghost use Rattle.script_lang.specs.Parts.{lines};
-ghost use Rattle.script_lang.specs.Feeding.{kept_line, fresh_feed, first_part, has_line_feed, taken, grown, has_bytes, after_feeding, after_end, at_next, line_at, numbered, ahead};
+ghost use Rattle.script_lang.specs.Feeding.{kept_line, fresh_feed, first_part, has_line_feed, taken, grown, has_bytes, after_feeding, after_end, at_next, line_at, numbered, ahead, FedLine, LinesCome};
 ghost use Rattle.script_lang.specs.FedLines.{fed_line};
 ghost use Rattle.script_lang.specs.FeedState.{IsOneLine};
 
@@ -189,18 +189,20 @@ impl LineFeed {
     }
 }
 
-/// Law: at the start of a text its lines are ahead, numbered from 1.
+/// Law: at the start of a text its lines are ahead, numbered from 1. No call but `next` changes what is ahead,
+/// and `next` takes from it just the line that was handed out.
 ///
-/// No call but `next` changes what is ahead, and `next` takes from it just the line that was handed out. So for
-/// every cutting into pieces the lines that come are those of the whole text.
+/// So for every cutting into pieces the lines that come are those of the whole text.
 pub fn pieces_give_the_lines()
-    ensures { (text : List ℕ) → ahead fresh_feed text ≡ numbered 1 (lines text) }
+    ensures start { (text : List ℕ) → ahead fresh_feed text ≡ numbered 1 (lines text) }
+    ensures every_cutting { (text : List ℕ) (ls : List FedLine) → LinesCome fresh_feed text ls → ls ≡ numbered 1 (lines text) }
 {}
 
 /// Law: once the text ended and no line is whole, no line is ahead.
 pub fn nothing_is_left(feed: &LineFeed)
     ensures { feed.now.ended ≡ true → feed.now.whole ≡ false → ahead feed.now [] ≡ [] }
 {
+    // opens the feed: what holds of every feed is then known
     let _ = &feed.kept;
 }
 
