@@ -160,3 +160,49 @@ fn numbers_end(rt: HostRuntime) -> Result<(), Fail> {
     assert!(rt; matches!(second, Reply::Refused(Refusal::NumberLimit)));
     Ok(())
 }
+
+const FORKED: &[u8] =
+    b"zygote class P java.lang.Object x:int\nzygote new a P\nzygote seal\nzygote new b P\nzygote fork app\napp new c P\napp set a x 7\nzygote new d P\nzygote new e P\n";
+
+const PARENT_EXITED: &[u8] =
+    b"zygote class P java.lang.Object x:int\nzygote new a P\nzygote seal\nzygote new b P\nzygote fork app\napp new c P\napp set a x 7\nzygote new d P\nzygote new e P\nzygote exit\n";
+
+/// The machine after a script.
+fn machine_after(alloc: Global, script: &[u8]) -> Result<Machine, AllocError> {
+    let mut source = MemorySource::new(alloc, script, 100_000, &[])?;
+    let mut sink = MemorySink::new(alloc, 10_000, &[])?;
+    let mut shelf = SoundShelf::new();
+    let mut machine = Machine::new(alloc);
+    let words = [String::from_str(alloc, "run")?];
+    artheap(
+        alloc,
+        &words,
+        &mut source,
+        &mut sink,
+        &mut shelf,
+        &mut machine,
+    );
+    Ok(machine)
+}
+
+#[test]
+fn machines_count(rt: HostRuntime) -> Result<(), Fail> {
+    let zygote = Name::of(b"zygote").unwrap();
+    let app = Name::of(b"app").unwrap();
+    // the live processes, the objects of `zygote` and `app`, all objects, and the frames
+    let cases: [(&[u8], usize, Option<usize>, Option<usize>, u128, u64); 3] = [
+        (b"", 1, Some(0), None, 0, 0),
+        (FORKED, 2, Some(4), Some(3), 7, 5),
+        (PARENT_EXITED, 1, None, Some(3), 3, 3),
+    ];
+    for (script, live, in_zygote, in_app, objects, frames) in cases {
+        let machine = machine_after(rt.alloc(), script)?;
+        assert_eq!(rt; machine.live_count(), live);
+        assert_eq!(rt; machine.is_live(&zygote), in_zygote.is_some());
+        assert_eq!(rt; machine.object_count(&zygote), in_zygote);
+        assert_eq!(rt; machine.object_count(&app), in_app);
+        assert_eq!(rt; machine.objects(), objects);
+        assert_eq!(rt; machine.frames_used()?, frames);
+    }
+    Ok(())
+}
