@@ -34,19 +34,21 @@ commands_from n (l ∷ ls) = command_at n l ++ commands_from (n + 1) ls
 abbrev pub commands : List ℕ → List Line
 commands text = commands_from 1 (lines text)
 
--- a line that is refused and no command: it is too long or bad
+-- a meaning is that of a bad line
 abbrev pub is_bad : Result (Option Command) LineError → Bool
 is_bad (Ok line) = false
 is_bad (Err why) = true
 
+-- a line is bad, or has more than 4,096 bytes
 abbrev pub is_bad_if_short : Bool → List ℕ → Bool
 is_bad_if_short true line = is_bad (line_meaning line)
 is_bad_if_short false line = true
 
+-- a line that is refused without being a command: it is bad or too long
 abbrev pub is_bad_line : List ℕ → Bool
 is_bad_line line = is_bad_if_short (nat_le (length line) 4096) line
 
--- how many of these lines are refused and no commands
+-- how many lines are refused without being commands
 abbrev pub bad_lines : List (List ℕ) → ℕ
 bad_lines ls = length (filter is_bad_line ls)
 
