@@ -1,1 +1,3 @@
 pub mod PutAll
+pub mod RowLemmas
+pub mod ShelfEntries

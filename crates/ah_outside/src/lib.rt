@@ -4,6 +4,7 @@
 #![tactic(auto)]
 
 mod fault_plan;
+mod memory_shelf;
 mod memory_sink;
 mod memory_source;
 mod read_source;
@@ -15,6 +16,7 @@ mod sound_source;
 mod source;
 mod write_sink;
 
+pub use memory_shelf::MemoryShelf;
 pub use memory_sink::MemorySink;
 pub use memory_source::MemorySource;
 pub use read_source::ReadSource;
