@@ -1,6 +1,7 @@
 pub mod Adapter
 pub mod Counts
 pub mod FaultPlan
+pub mod FolderShelf
 pub mod MemoryShelf
 pub mod MemorySink
 pub mod MemorySource

@@ -4,6 +4,7 @@
 #![tactic(auto)]
 
 mod fault_plan;
+mod folder_shelf;
 mod memory_shelf;
 mod memory_sink;
 mod memory_source;
@@ -16,6 +17,7 @@ mod sound_source;
 mod source;
 mod write_sink;
 
+pub use folder_shelf::FolderShelf;
 pub use memory_shelf::MemoryShelf;
 pub use memory_sink::MemorySink;
 pub use memory_source::MemorySource;
