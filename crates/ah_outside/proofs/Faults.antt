@@ -1,6 +1,5 @@
 -- How a count of faults rises.
-use Rattle.std.proofs.Common.{◌≡◌, ℕ, ◌+◌, ◌<◌, ◌≤◌, ◌^◌, arith, inl, inr}
-use Rattle.std.proofs.lemmas.Grind.{common_steps}
+use Rattle.std.proofs.Common.{◌≡◌, ℕ, arith}
 use Rattle.ah_outside.specs.Counts.{one_more}
 use Rattle.ah_outside.specs.Outside.{FaultRose}
 

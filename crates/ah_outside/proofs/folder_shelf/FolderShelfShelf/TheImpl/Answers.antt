@@ -1,4 +1,4 @@
-use Rattle.std.proofs.Common.{◌≡◌, Bool, None, ap, sym, ◌∙◌, inl}
+use Rattle.std.proofs.Common.{Bool, None, ap, sym, ◌∙◌, inl}
 use Rattle.std.proofs.lemmas.Result.{on_ok_weaker, on_err_weaker}
 use Rattle.ah_outside.specs.Outside.{Shelved}
 use Rattle.ah_outside.proofs.Faults.{FaultRose-one_more}
