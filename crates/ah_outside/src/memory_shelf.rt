@@ -42,6 +42,7 @@ impl Model for MemoryShelf {
     ghost invariant = { λ s. IsLaidOut 0 s.rows.items (length s.bytes.items) × (length s.bytes.items ≤ s.room) × (s.room ≤ vec_capacity s.bytes) × (length s.rows.items ≤ s.limit) × (s.limit ≤ vec_capacity s.rows) };
 }
 
+// The bytes from one place to another.
 fn cut(bytes: &[u8], from: usize, to: usize) -> &[u8]
     requires in_order { from ≤ to }
     requires within { to ≤ length bytes.now }
@@ -50,6 +51,7 @@ fn cut(bytes: &[u8], from: usize, to: usize) -> &[u8]
     &bytes[from..to]
 }
 
+// The last entry ends at another place.
 fn move_last_end(rows: &mut Vec<Row>, to: usize)
     ensures moved { rows.new.items ≡ with_last (ended_at to) rows.old.items }
     ensures capacity { vec_capacity rows.new ≡ vec_capacity rows.old }
@@ -59,6 +61,7 @@ fn move_last_end(rows: &mut Vec<Row>, to: usize)
     }
 }
 
+// The last entry is closed.
 fn mark_last(rows: &mut Vec<Row>)
     ensures marked { rows.new.items ≡ with_last marked rows.old.items }
     ensures capacity { vec_capacity rows.new ≡ vec_capacity rows.old }
