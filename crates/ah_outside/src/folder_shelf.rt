@@ -1,6 +1,6 @@
-ghost use Rattle.std.specs.Prelude.{◌≡◌, ◌≤◌, true, false, OnOk, OnErr};
+ghost use Rattle.std.specs.Prelude.{◌≡◌, ◌≤◌, true, false, IfSome, OnSome, OnOk, OnErr};
 ghost use Rattle.ah_outside.specs.Counts.{one_more};
-ghost use Rattle.ah_outside.specs.FolderShelf.{FolderState};
+ghost use Rattle.ah_outside.specs.FolderShelf.{FolderState, IsFileName};
 
 use crate::{Failed, Shelf};
 use std::fs::{self, File};
@@ -27,15 +27,20 @@ impl<'a, R: Files> Model for FolderShelf<'a, R> {
 }
 
 /// The name as text, where a file of the current folder can have it.
-fn file_name(name: &[u8]) -> Option<&str> {
-    let text = str::from_utf8(name).ok()?;
-    let is_elsewhere = text.contains('/') || matches!(text, "" | "." | "..");
-    (!is_elsewhere).then_some(text)
+fn file_name(name: &[u8]) -> Option<&str>
+    ensures { IfSome result (λ text. (text.now ≡ name.now) × IsFileName name.now) }
+{
+    if name.contains(&b'/') || matches!(name, b"" | b"." | b"..") {
+        return None;
+    }
+    str::from_utf8(name).ok()
 }
 
 /// Makes a file of this name, in place of a file or a link that stands there. No link is followed: `exists`
 /// looks through one, and then the link itself is removed, and a file is only made where nothing stands.
-fn new_file<R: Files>(files: &R, name: &[u8]) -> Option<R::File> {
+fn new_file<R: Files>(files: &R, name: &[u8]) -> Option<R::File>
+    ensures { OnSome result (IsFileName name.now) }
+{
     let name = file_name(name)?;
     if fs::exists(files, name).ok()? {
         fs::remove_file(files, name).ok()?;
@@ -83,6 +88,7 @@ impl<R: Files> Shelf for FolderShelf<'_, R> {
     fn begin(&mut self, name: &[u8]) -> Result<(), Failed>
         requires { self.old.unfinished ≡ false }
         ensures begun { OnOk result (self.new.unfinished ≡ true) }
+        ensures named { OnOk result (IsFileName name.now) }
         ensures failed { OnErr result (self.new.unfinished ≡ false) }
 
         ensures no_fault { OnOk result (self.new.faults ≡ self.old.faults) }
