@@ -39,8 +39,8 @@ impl<W: Write + Drop> SharedWriter<W> {
         }
     }
 
-    // Holds back as much of the piece as there is room for, and writes out what was held back before where there
-    // is none.
+    // Holds back the piece, or hands it on where it is longer than the buffer. Where there is no room, what was held
+    // back before is written out first.
     pub(crate) fn put(&self, piece: &[u8]) -> Result<usize, Failed>
         ensures within { IfOk result (λ n. n ≤ length piece.now) }
         ensures not_stuck { IfOk result (λ n. 0 < length piece.now → 0 < n) }
