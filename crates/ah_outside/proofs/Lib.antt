@@ -1,1 +1,4 @@
+pub mod Faults
 pub mod PutAll
+pub mod RowLemmas
+pub mod ShelfEntries

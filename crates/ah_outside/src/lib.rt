@@ -3,10 +3,15 @@
 //! has forms in memory and adapters over std's readers and writers.
 #![tactic(auto)]
 
+mod buffered_sink;
 mod fault_plan;
+mod flushing_source;
+mod folder_shelf;
+mod memory_shelf;
 mod memory_sink;
 mod memory_source;
 mod read_source;
+mod shared_writer;
 mod shelf;
 mod sink;
 mod sound_shelf;
@@ -15,9 +20,14 @@ mod sound_source;
 mod source;
 mod write_sink;
 
+pub use buffered_sink::BufferedSink;
+pub use flushing_source::FlushingSource;
+pub use folder_shelf::FolderShelf;
+pub use memory_shelf::MemoryShelf;
 pub use memory_sink::MemorySink;
 pub use memory_source::MemorySource;
 pub use read_source::ReadSource;
+pub use shared_writer::SharedWriter;
 pub use shelf::Shelf;
 pub use sink::{Sink, put_all};
 pub use sound_shelf::SoundShelf;

@@ -1,10 +1,13 @@
 //! `artheap`: runs a script over a modelled heap of the Android Runtime, from standard input to standard output.
 #![tactic(auto)]
 
-use ah_outside::{ReadSource, SoundShelf, WriteSink};
+use ah_outside::{BufferedSink, FlushingSource, FolderShelf, SharedWriter};
 use artheap_top::{Machine, Status, artheap};
 use std::process::ExitCode;
 use std::{env, io};
+
+/// How many bytes of the report are held back at most until more input is waited for.
+const BUFFER_BYTES: usize = 65_536;
 
 /// The line for standard error, where the call went wrong.
 fn message(status: Status) -> Option<&'static str> {
@@ -19,21 +22,27 @@ fn message(status: Status) -> Option<&'static str> {
     }
 }
 
-/// Calls the job that the words name, over the standard streams.
+/// Calls the job that the words name, over the standard streams and the files of the current folder.
 fn job(rt: &HostRuntime) -> io::Result<Status> {
     let words = env::args(rt)?.skip(1).collect::<Vec<String>>(rt.alloc())?;
-    let mut source = ReadSource::new(rt.stdin());
-    let mut sink = WriteSink::new(rt.stdout());
-    let mut shelf = SoundShelf::new();
+    let output = SharedWriter::new(rt.alloc(), BUFFER_BYTES, rt.stdout())?;
+    let mut source = FlushingSource::new(rt.stdin(), &output);
+    let mut sink = BufferedSink::new(&output);
+    let mut shelf = FolderShelf::new(rt);
     let mut machine = Machine::new(rt.alloc());
-    Ok(artheap(
+    let status = artheap(
         rt.alloc(),
         words.as_slice(),
         &mut source,
         &mut sink,
         &mut shelf,
         &mut machine,
-    ))
+    );
+    // the source has the output written out too, and can only answer a read fault where that fails
+    if output.flush().is_err() || output.has_failed() {
+        return Ok(Status::WriteFault);
+    }
+    Ok(status)
 }
 
 fn main(rt: HostRuntime) -> ExitCode {
