@@ -1,5 +1,5 @@
 -- How a job may end, and what it leaves.
-use Rattle.std.specs.Prelude.{◌≡◌, ◌⊎◌, ℕ, ◌+◌, ◌<◌, ◌≤◌, Bool, true, false, List, [], ◌∷◌, ◌++◌, Option, IfSome, IsSomeAnd, length, take}
+use Rattle.std.specs.Prelude.{◌≡◌, ◌⊎◌, ℕ, ◌+◌, ◌<◌, ◌≤◌, Bool, true, false, List, [], ◌∷◌, ◌++◌, Option, IfSome, IsSomeAnd, length, map, take}
 use Rattle.ah_outside.specs.Outside.{FaultRose, Gave, Gained, GainedPrefix}
 use Rattle.artheap_top.specs.declared.status.Status.{Status}
 use Rattle.artheap_top.specs.declared.status.Status.TheVariants as status
@@ -7,7 +7,9 @@ use Rattle.heap_world.specs.World.{World}
 use Rattle.plain_machine.specs.Worlds.{StandsFor}
 use Rattle.script_lang.specs.Parts.{lines, whole_lines}
 use Rattle.script_make.specs.Script.{soak_lines}
-use Rattle.artheap_top.specs.Report.{answers_of, has_refusal, line_report, report_of, world_of}
+use Rattle.heap_world.specs.Isolation.{NoNameTaken}
+use Rattle.artheap_top.specs.Own.{AreAloneIn, told_by_script}
+use Rattle.artheap_top.specs.Report.{answers, answers_of, last_world, has_refusal, line_report, report_of, world_of}
 use Rattle.artheap_top.specs.Summary.{summary}
 
 -- the greatest length of an input, in bytes
@@ -43,7 +45,8 @@ pub record RanLines (budget : ℕ) (ls : List (List ℕ)) (gained gained' : Opti
   pub report : Gained gained (report_of (answers_of budget ls)) gained'
   pub stands : StandsFor machine (world_of budget ls)
 
--- the whole input was taken, and its lines were run
+-- the whole input was taken, and its lines were run. Where no fork was refused since its name was taken, each process
+-- answered and is what its own lines alone make of it
 pub record RanToEnd (budget : ℕ) (refused : Bool) (left left' gained gained' : Option (List ℕ)) (machine : World) : Type 0 where
   pub text : List ℕ
   pub gave : Gave left text left'
@@ -51,6 +54,8 @@ pub record RanToEnd (budget : ℕ) (refused : Bool) (left left' gained gained' :
   pub fits : length text ≤ input_limit
   pub ran : RanLines budget (lines text) gained gained' machine
   pub refusals : has_refusal (answers_of budget (lines text)) ≡ refused
+  pub isolated : NoNameTaken (answers budget text) → AreAloneIn budget text (told_by_script budget text)
+  pub told : map (λ t. t.name) (told_by_script budget text) ≡ map (λ q. q.name) (last_world budget text).processes
 
 -- a read failed: every line whose line feed had been taken was run
 pub record StoppedReading (budget : ℕ) (left left' gained gained' : Option (List ℕ)) (machine : World) : Type 0 where

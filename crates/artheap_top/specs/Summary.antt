@@ -1,5 +1,5 @@
 -- The summary of a generated script.
-use Rattle.std.specs.Prelude.{ℕ, ◌+◌, Bool, true, false, List, [], ◌∷◌, ◌++◌, codes, decimal, filter, length, map, sum}
+use Rattle.std.specs.Prelude.{ℕ, ◌+◌, Bool, true, false, List, [], ◌∷◌, ◌++◌, codes, decimal, filter, length}
 use Rattle.heap_world.specs.declared.reply.Reply.{Reply}
 use Rattle.heap_world.specs.declared.reply.Reply.TheVariants as reply
 use Rattle.heap_world.specs.Effect.{is_refusal}
@@ -23,23 +23,23 @@ refusal_count given = length (filter (λ a. is_refusal a.reply) given)
 abbrev pub collection_count : List Answer → ℕ
 collection_count given = length (filter (λ a. tells_collection a.reply) given)
 
--- a line of the summary: a word and a number
+-- a line of the summary: a word with the blank behind it, and a number
 abbrev pub summary_line : List ℕ → ℕ → List ℕ
-summary_line word n = word ++ codes " " ++ decimal n ++ codes "\n"
+summary_line word n = word ++ decimal n ++ codes "\n"
 
 -- the words of the call, the lines, what their answers tell, and what the last world holds
-abbrev pub summary_of : ℕ → ℕ → List (List ℕ) → List Answer → World → List ℕ
-summary_of start count ls given w =
+abbrev pub summary_of : ℕ → ℕ → ℕ → List Answer → World → List ℕ
+summary_of start count line_count given w =
     codes "soak " ++ decimal start ++ codes " " ++ decimal count ++ codes "\n"
-    ++ summary_line (codes "lines") (length ls)
-    ++ summary_line (codes "refused") (refusal_count given)
-    ++ summary_line (codes "collections") (collection_count given)
-    ++ summary_line (codes "processes") (live_count w)
-    ++ summary_line (codes "objects") (live_objects w)
-    ++ summary_line (codes "frames") (frame_count w)
+    ++ summary_line (codes "lines ") line_count
+    ++ summary_line (codes "refused ") (refusal_count given)
+    ++ summary_line (codes "collections ") (collection_count given)
+    ++ summary_line (codes "processes ") (live_count w)
+    ++ summary_line (codes "objects ") (live_objects w)
+    ++ summary_line (codes "frames ") (frame_count w)
 
 -- the summary of the script that the generator makes of two numbers, for processes with this budget of regions
 abbrev pub summary : ℕ → ℕ → ℕ → List ℕ
 summary budget start count =
     let ls = soak_lines start count in
-    summary_of start count ls (answers_of budget ls) (world_of budget ls)
+    summary_of start count (length ls) (answers_of budget ls) (world_of budget ls)

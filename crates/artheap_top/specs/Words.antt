@@ -1,5 +1,5 @@
 -- What the words of a call ask for.
-use Rattle.std.specs.Prelude.{ℕ, Bool, true, false, ◌&&◌, List, [], ◌∷◌, Option, None, Some, codes, decimal, nat_le, if◌then◌else◌}
+use Rattle.std.specs.Prelude.{ℕ, ◌≤◌, Bool, true, false, ◌&&◌, List, [], ◌∷◌, Option, None, Some, codes, decimal, nat_le, if◌then◌else◌}
 use Rattle.std.specs.Option.{option_map}
 use Rattle.class_layout.specs.Names.{same_name}
 use Rattle.script_lang.specs.Numbers.{digits_number}
@@ -44,3 +44,8 @@ run_of (Some regions) = Some (job.Run regions)
 abbrev pub job_of : List (List ℕ) → Option Job
 job_of [] = None
 job_of (word ∷ words) = if same_name word (codes "run") then run_of (option_regions words) else if same_name word (codes "soak") then soak_job words else None
+
+-- the numbers of a job are within their bounds
+abbrev pub IsPossible : Job → Type 0
+IsPossible (job.Run regions) = (1 ≤ regions) × (regions ≤ 512)
+IsPossible (job.Soak start count regions) = (start ≤ 2147483647) × (count ≤ 1000000) × (1 ≤ regions) × (regions ≤ 512)

@@ -1,14 +1,23 @@
 //! The top call: a script from its bytes to its report.
 #![tactic(auto)]
 
+mod examples;
 mod laws;
 mod own_examples;
 mod script;
+mod soak;
 mod status;
 mod step;
 mod stop;
+mod top;
 mod words;
 
 pub use laws::{commands_are_answered, scripts_are_isolated};
 pub use plain_machine::Machine;
 pub use status::Status;
+pub use top::artheap;
+
+#[cfg(test)]
+mod rows;
+#[cfg(test)]
+mod tests;

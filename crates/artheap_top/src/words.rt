@@ -1,6 +1,6 @@
 ghost use Rattle.std.specs.Prelude.{◌≡◌, ◌≤◌, map, string_bytes, IfSome};
 ghost use Rattle.std.specs.Option.{option_copied};
-ghost use Rattle.artheap_top.specs.Words.{job_of, number_within, option_regions, run_of, soak_job, soak_of};
+ghost use Rattle.artheap_top.specs.Words.{IsPossible, job_of, number_within, option_regions, run_of, soak_job, soak_of};
 
 use script_lang::read_count;
 
@@ -42,16 +42,19 @@ fn option_regions(words: &[String]) -> Option<u32>
     }
 }
 
-/// The run or the soak that the words behind the first one ask for.
+/// The run that the words behind `run` ask for.
 fn run_job(words: &[String]) -> Option<Job>
-    ensures { result ≡ run_of (option_regions (map string_bytes words.now)) }
+    ensures job { result ≡ run_of (option_regions (map string_bytes words.now)) }
+    ensures possible { IfSome result IsPossible }
 {
     let regions = option_regions(words)?;
     Some(Job::Run { regions })
 }
 
+/// The soak that the words behind `soak` ask for.
 fn soak_job(words: &[String]) -> Option<Job>
-    ensures { result ≡ soak_job (map string_bytes words.now) }
+    ensures job { result ≡ soak_job (map string_bytes words.now) }
+    ensures possible { IfSome result IsPossible }
 {
     match words {
         [start, count, more @ ..] => {
@@ -70,7 +73,8 @@ fn soak_job(words: &[String]) -> Option<Job>
 
 /// The job that the words ask for, or `None` where they have no form.
 pub(crate) fn job_of(words: &[String]) -> Option<Job>
-    ensures { result ≡ job_of (map string_bytes words.now) }
+    ensures job { result ≡ job_of (map string_bytes words.now) }
+    ensures possible { IfSome result IsPossible }
 {
     let (word, more) = words.split_first()?;
     if word.as_bytes() == b"run".as_slice() {

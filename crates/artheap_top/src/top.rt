@@ -1,0 +1,70 @@
+ghost use Rattle.std.specs.Prelude.{◌≡◌, ◌≢◌, ◌↔◌, ◌≤◌, ℕ, None, Some, false, map, string_bytes};
+ghost use Rattle.ah_outside.specs.Outside.{FaultRose};
+ghost use Rattle.heap_world.specs.World.{empty_world};
+ghost use Rattle.plain_machine.specs.Worlds.{StandsFor};
+ghost use Rattle.artheap_top.specs.Ends.{EndedRun, EndedSoak, EndsWell, HasFewLeft};
+ghost use Rattle.artheap_top.specs.Words.{job_of};
+
+use crate::script::run_script;
+use crate::soak::soak;
+use crate::stop::job_status;
+use crate::words::{Job, job_of};
+use crate::{Machine, Status};
+use ah_outside::{Shelf, Sink, Source};
+use std::alloc::Global;
+
+/// Does the job that the words name. The words are those after the program's name.
+///
+/// `run [--regions N]` runs a script of at most 268,435,456 bytes from the source, at most 4,096 bytes at a time. Each
+/// line is run as soon as its line feed was taken, and its reply is put to the sink as one piece before the next line is
+/// run and before more bytes are taken. `soak START COUNT [--regions N]` runs the script that a generator makes of two
+/// numbers, START up to 2,147,483,647 and COUNT up to 1,000,000, and puts a summary. N is the budget of each process in
+/// regions, 1 to 512, and 64 if it isn't given.
+///
+/// The machine is new, and at the end of a job stands for the world that the script made.
+pub fn artheap<S: Source, W: Sink, F: Shelf>(
+    alloc: Global,
+    words: &[String],
+    source: &mut S,
+    sink: &mut W,
+    shelf: &mut F,
+    machine: &mut Machine,
+) -> Status
+    requires is_new { StandsFor machine.old empty_world }
+    requires no_entry { (F.shelved shelf.old).unfinished ≡ false }
+
+    // What a run leaves and what a soak leaves, status by status.
+    ensures run { (regions : ℕ) → job_of (map string_bytes words.now) ≡ Some (Job.Run regions) →
+        EndedRun regions result (S.left source.old) (S.left source.new) (S.fault_count source.old) (S.fault_count source.new) (W.gained sink.old) (W.gained sink.new) (W.fault_count sink.old) (W.fault_count sink.new) machine.new }
+    ensures soak { (start count regions : ℕ) → job_of (map string_bytes words.now) ≡ Some (Job.Soak start count regions) →
+        (source.new ≡ source.old) × EndedSoak regions start count result (W.gained sink.old) (W.gained sink.new) (W.fault_count sink.old) (W.fault_count sink.new) machine.new }
+
+    // The words have no form, and nothing was done.
+    ensures usage { (result ≡ Status.Usage) ↔ (job_of (map string_bytes words.now) ≡ None) }
+    ensures unused { result ≡ Status.Usage → (source.new ≡ source.old) × (sink.new ≡ sink.old) × (machine.new ≡ machine.old) }
+
+    // With words that have a form, an input within the limit and no fault, only want of memory stops a job. A soak has
+    // no input.
+    ensures run_complete { (regions : ℕ) → job_of (map string_bytes words.now) ≡ Some (Job.Run regions) → HasFewLeft (S.left source.old) →
+        ¬ FaultRose (S.fault_count source.old) (S.fault_count source.new) → ¬ FaultRose (W.fault_count sink.old) (W.fault_count sink.new) → EndsWell result }
+    ensures soak_complete { (start count regions : ℕ) → job_of (map string_bytes words.now) ≡ Some (Job.Soak start count regions) →
+        ¬ FaultRose (W.fault_count sink.old) (W.fault_count sink.new) → EndsWell result }
+
+    // No count of faults falls.
+    ensures source_faults { S.fault_count source.old ≤ S.fault_count source.new }
+    ensures sink_faults { W.fault_count sink.old ≤ W.fault_count sink.new }
+
+    // No job so far uses the shelf.
+    ensures shelf { shelf.new ≡ shelf.old }
+{
+    let _ = &shelf;
+    match job_of(words) {
+        None => Status::Usage,
+        Some(Job::Run { regions }) => job_status(run_script(alloc, regions, source, sink, machine)),
+        Some(Job::Soak {
+            start,
+            count,
+            regions,
+        }) => job_status(soak(alloc, start, count, regions, sink, machine)),
+    }
+}
