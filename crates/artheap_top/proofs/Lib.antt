@@ -1,3 +1,4 @@
+pub mod Completeness
 pub mod Outside
 pub mod OwnAlone
 pub mod OwnCommands

@@ -1,5 +1,5 @@
 -- A run of a script from a source: how it begins, goes on, ends, and stops.
-use Rattle.std.proofs.Common.{◌≡◌, ◌⊎◌, inl, inr, ℕ, ◌+◌, ◌<◌, ◌≤◌, ◌||◌, Bool, true, false, List, [], ◌∷◌, ◌++◌, Option, None, Some, Result, Ok, Err, MatchResult, length, take, refl, sym, ◌∙◌, ap, subst, arith, length-append}
+use Rattle.std.proofs.Common.{◌≡◌, ◌⊎◌, inl, inr, ℕ, ◌+◌, ◌<◌, ◌≤◌, ◌||◌, Bool, true, false, List, [], ◌∷◌, ◌++◌, Option, None, Some, Result, Ok, Err, MatchResult, length, map, take, refl, sym, ◌∙◌, ap, subst, arith, length-append}
 use Rattle.std.specs.Prelude.{IfSome, ◌↔◌, nat_lt}
 use Rattle.std.proofs.lemmas.Bool.{ltb-false}
 use Rattle.std.proofs.lemmas.List.{append-nil}
@@ -15,6 +15,9 @@ use Rattle.artheap_top.specs.declared.status.Status.{Status}
 use Rattle.artheap_top.specs.declared.status.Status.TheVariants as status
 use Rattle.artheap_top.specs.Ends.{CameTo, EndedRun, NothingLeft, RanLines, RanToEnd, StoppedForMemory, StoppedReading, StoppedWriting, TookTooMany, input_limit, piece_limit}
 use Rattle.artheap_top.specs.Progress.{HasRun, HasRunLines, HasTaken, HasTooMany, PutBehind, StoppedBehind, StoppedIn, StoppedLast, StoppedTaken, job_status, refused_status, stop_status}
+use Rattle.heap_world.specs.Isolation.{NoNameTaken}
+use Rattle.artheap_top.specs.Own.{AreAloneIn, told_by_script}
+use Rattle.artheap_top.specs.Report.{answers, last_world}
 use Rattle.artheap_top.proofs.Outside.{FaultRose-earlier, Gave-more, Gave-none}
 
 Gained-none : (o : Option (List ℕ)) → Gained o [] o
@@ -108,14 +111,19 @@ ended_earlier Write budget f fm f' sf sm sf' left left' g g1 machine a b p q h =
 ended_earlier Memory budget f fm f' sf sm sf' left left' g g1 machine a b p q h = h
 ended_earlier TooLong budget f fm f' sf sm sf' left left' g g1 machine a b p q h = h
 
+-- what the laws say of every script
+pub record AreIsolated (budget : ℕ) : Type 0 where
+  pub alone : (text : List ℕ) → NoNameTaken (answers budget text) → AreAloneIn budget text (told_by_script budget text)
+  pub told : (text : List ℕ) → map (λ t. t.name) (told_by_script budget text) ≡ map (λ q. q.name) (last_world budget text).processes
+
 -- the input was read to its end and run
-pub run_ends : (budget room : ℕ) (feed : Feed) (refused refused' : Bool) (f f' sf sf' : ℕ) (left left' g g0 g1 : Option (List ℕ)) (machine machine' : World)
+pub run_ends : (budget room : ℕ) (feed : Feed) (refused refused' : Bool) (f f' sf sf' : ℕ) (left left' g g0 g1 : Option (List ℕ)) (machine machine' : World) → AreIsolated budget
     → (h : HasTaken budget room feed refused left left' g g0 machine) → NothingLeft left' → HasRunLines budget (lines h.text) refused' g g1 machine'
     → EndedRun budget (refused_status refused') left left' f f' g g1 sf sf' machine'
-run_ends budget room feed refused true f f' sf sf' left left' g g0 g1 machine machine' h nothing ran =
-    record { text = h.text; gave = h.gave; nothing_left = nothing; fits = omega (arith, h.fits); ran = ran.ran; refusals = ran.refusals }
-run_ends budget room feed refused false f f' sf sf' left left' g g0 g1 machine machine' h nothing ran =
-    record { text = h.text; gave = h.gave; nothing_left = nothing; fits = omega (arith, h.fits); ran = ran.ran; refusals = ran.refusals }
+run_ends budget room feed refused true f f' sf sf' left left' g g0 g1 machine machine' laws h nothing ran =
+    record { text = h.text; gave = h.gave; nothing_left = nothing; fits = omega (arith, h.fits); ran = ran.ran; refusals = ran.refusals; isolated = laws.alone h.text; told = laws.told h.text }
+run_ends budget room feed refused false f f' sf sf' left left' g g0 g1 machine machine' laws h nothing ran =
+    record { text = h.text; gave = h.gave; nothing_left = nothing; fits = omega (arith, h.fits); ran = ran.ran; refusals = ran.refusals; isolated = laws.alone h.text; told = laws.told h.text }
 
 -- the last line, without a line feed, wasn't run to its end
 last_came : (text : List ℕ) (before : List (List ℕ)) (line : List ℕ) (left left' : Option (List ℕ)) → Gave left text left' → NothingLeft left' → lines text ≡ before ++ line ∷ []
@@ -144,11 +152,11 @@ pub not_more : (n : ℕ) → nat_lt 0 n ≡ false → n ≡ 0
 not_more n none = omega (arith, ltb-false 0 n none)
 
 -- the last line was run, or there was none, or it stopped
-pub run_over : (budget room : ℕ) (feed : Feed) (refused : Bool) (f f' sf sm sf' : ℕ) (left left' g g0 g1 : Option (List ℕ)) (machine machine' : World)
+pub run_over : (budget room : ℕ) (feed : Feed) (refused : Bool) (f f' sf sm sf' : ℕ) (left left' g g0 g1 : Option (List ℕ)) (machine machine' : World) → AreIsolated budget
     → (h : HasTaken budget room feed refused left left' g g0 machine) → NothingLeft left' → sf ≤ sm → sm ≤ sf'
     → (r : Result Bool Stop) → MatchResult r (λ b. HasRunLines budget (lines h.text) b g g1 machine') (λ stop. StoppedLast budget h.text stop sm sf' g g1 machine')
     → EndedRun budget (job_status r) left left' f f' g g1 sf sf' machine'
-run_over budget room feed refused f f' sf sm sf' left left' g g0 g1 machine machine' h nothing a b (Ok now) ran =
-    run_ends budget room feed refused now f f' sf sf' left left' g g0 g1 machine machine' h nothing ran
-run_over budget room feed refused f f' sf sm sf' left left' g g0 g1 machine machine' h nothing a b (Err stop) last =
+run_over budget room feed refused f f' sf sm sf' left left' g g0 g1 machine machine' laws h nothing a b (Ok now) ran =
+    run_ends budget room feed refused now f f' sf sf' left left' g g0 g1 machine machine' laws h nothing ran
+run_over budget room feed refused f f' sf sm sf' left left' g g0 g1 machine machine' laws h nothing a b (Err stop) last =
     last_stops stop budget room feed refused f f' sf sm sf' left left' g g0 g1 machine machine' h nothing a b last

@@ -7,6 +7,7 @@ ghost use Rattle.plain_machine.specs.Worlds.{StandsFor};
 ghost use Rattle.artheap_top.specs.Ends.{EndedRun, NothingLeft, input_limit, piece_limit};
 ghost use Rattle.artheap_top.specs.Progress.{HasRun, HasRunLines, HasTaken, IsGoing, StoppedBehind, StoppedIn, StoppedLast, StoppedTaken, job_status, stop_status};
 
+use crate::laws::scripts_are_isolated;
 use crate::Machine;
 use crate::step::run_fed;
 use crate::stop::Stop;
@@ -219,6 +220,7 @@ pub(crate) fn run_script<S: Source, W: Sink>(
     ensures source_faults { S.fault_count source.old ≤ S.fault_count source.new }
     ensures sink_faults { W.fault_count sink.old ≤ W.fault_count sink.new }
 {
+    scripts_are_isolated();
     machine.prepare(regions, 1)?;
     let mut run = Progress {
         feed: LineFeed::new(alloc)?,

@@ -18,7 +18,7 @@ returns-clause-ended g c =
     let taken = c.in_ok-run_lines.ensures.done regions before (told c.args.sink.now) begin_ in
     run_over regions run.room run.feed run.refused (reads c.args.source.now) (reads c.run_lines.new.source) (puts c.args.sink.now) (puts c.run_lines.new.sink) (puts c.run_last.new.sink)
     before (g.S.Source.left c.run_lines.new.source) (told c.args.sink.now) (told c.run_lines.new.sink) (told c.run_last.new.sink) c.run_lines.new.machine c.run_last.new.machine
-    taken.0 taken.1 c.run_lines.ensures.sink_faults c.run_last.ensures.never_falls c.run_last.result
+    (record { alone = c.scripts_are_isolated.ensures.alone regions; told = c.scripts_are_isolated.ensures.names regions }) taken.0 taken.1 c.run_lines.ensures.sink_faults c.run_last.ensures.never_falls c.run_last.result
     (c.run_last.ensures.done regions taken.0.text (told c.args.sink.now) taken.0.has_run)
 
 pub returns-in_err-run_lines-clause-ended : goal.returns-in_err-run_lines-clause-ended
