@@ -111,12 +111,14 @@ pub stops_behind : (stop : Stop) (budget : ℕ) (before : List (List ℕ)) (line
 stops_behind Read budget before line n refused f f' g g1 g2 machine machine' had is stopped = absurd stopped
 stops_behind Write budget before line n refused f f' g g1 g2 machine machine' had is stopped =
     let at : ℕ → Type 0 = λ k. PutInPart (with_answer k (step_line (world_of budget before) k line).reply []) (step_line (world_of budget before) k line).world g1 g2 machine' in
-    let part : at (1 + length before) = subst at is stopped.0 in
-    (record {
-      told = part.told;
-      report = Gained-more g (report_of (answers_of budget before)) g1 (take part.told (line_report budget before line)) g2 had.ran.report part.report;
-      stands = subst (StandsFor machine') (sym (world-more budget before line)) part.stands;
-    }, stopped.1)
+    let part : at (1 + length before) = subst at is stopped.0 in (
+      record {
+        told = part.told;
+        report = Gained-more g (report_of (answers_of budget before)) g1 (take part.told (line_report budget before line)) g2 had.ran.report part.report;
+        stands = subst (StandsFor machine') (sym (world-more budget before line)) part.stands;
+      },
+      stopped.1,
+    )
 stops_behind Memory budget before line n refused f f' g g1 g2 machine machine' had is stopped =
     subst (λ o. Gained g (report_of (answers_of budget before)) o) (sym stopped) had.ran.report
 stops_behind TooLong budget before line n refused f f' g g1 g2 machine machine' had is stopped = absurd stopped

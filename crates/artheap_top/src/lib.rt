@@ -18,6 +18,10 @@ pub use status::Status;
 pub use top::artheap;
 
 #[cfg(test)]
+mod faults;
+#[cfg(test)]
 mod rows;
+#[cfg(test)]
+mod sessions;
 #[cfg(test)]
 mod tests;

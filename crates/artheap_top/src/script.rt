@@ -7,8 +7,8 @@ ghost use Rattle.plain_machine.specs.Worlds.{StandsFor};
 ghost use Rattle.artheap_top.specs.Ends.{EndedRun, NothingLeft, input_limit, piece_limit};
 ghost use Rattle.artheap_top.specs.Progress.{HasRun, HasRunLines, HasTaken, IsGoing, StoppedBehind, StoppedIn, StoppedLast, StoppedTaken, job_status, stop_status};
 
-use crate::laws::scripts_are_isolated;
 use crate::Machine;
+use crate::laws::scripts_are_isolated;
 use crate::step::run_fed;
 use crate::stop::Stop;
 use ah_outside::{Sink, Source};

@@ -11,8 +11,11 @@ use std::test::Fail;
 const THREE_LINES: &[u8] =
     b"zygote class P java.lang.Object x:int\nzygote new a P\nzygote get a x\n";
 
+/// How many bytes a source gives at once.
+pub(crate) const CUTTINGS: [usize; 5] = [1, 2, 3, 7, 4_096];
+
 /// Calls `artheap` with words over forms in memory.
-fn call(
+pub(crate) fn call(
     alloc: Global,
     words: &[&str],
     source: &mut MemorySource,
@@ -38,12 +41,14 @@ fn call(
 fn scripts_give_their_reports(rt: HostRuntime) -> Result<(), Fail> {
     let alloc = rt.alloc();
     for row in &ROWS {
-        let mut source = MemorySource::new(alloc, row.script, 7, &[])?;
-        let mut sink = MemorySink::new(alloc, 10_000, &[])?;
-        let words = ["run", "--regions", row.regions];
-        assert_eq!(rt; call(alloc, &words, &mut source, &mut sink)?, row.status);
-        assert_eq!(rt; sink.bytes(), row.report);
-        assert_eq!(rt; source.left().len(), 0);
+        for piece in CUTTINGS {
+            let mut source = MemorySource::new(alloc, row.script, piece, &[])?;
+            let mut sink = MemorySink::new(alloc, 10_000, &[])?;
+            let words = ["run", "--regions", row.regions];
+            assert_eq!(rt; call(alloc, &words, &mut source, &mut sink)?, row.status);
+            assert_eq!(rt; sink.bytes(), row.report);
+            assert_eq!(rt; source.left().len(), 0);
+        }
     }
     Ok(())
 }
@@ -56,10 +61,17 @@ fn words_faults_and_limits_have_their_status(rt: HostRuntime) -> Result<(), Fail
     for _ in 0..4_097 {
         long.push(b'#')?;
     }
-    let cases: [(&[&str], &[u8], &[u64], &[u64], &[u8], Status); 13] = [
+    let cases: [(&[&str], &[u8], &[u64], &[u64], &[u8], Status); 16] = [
         (&["run"], b"", &[], &[], b"", Status::Ok),
         (&["run"], THREE_LINES, &[1], &[], b"", Status::ReadFault),
-        (&["run"], THREE_LINES, &[2], &[], b"", Status::ReadFault),
+        (
+            &["run"],
+            THREE_LINES,
+            &[2],
+            &[],
+            b"1: class 2\n2: #1\n3: 0\n",
+            Status::ReadFault,
+        ),
         (
             &["run"],
             THREE_LINES,
@@ -118,6 +130,23 @@ fn words_faults_and_limits_have_their_status(rt: HostRuntime) -> Result<(), Fail
             Status::Usage,
         ),
         (&["walk"], THREE_LINES, &[1], &[1], b"", Status::Usage),
+        (&["soak", "1"], b"", &[1], &[1], b"", Status::Usage),
+        (
+            &["soak", "2147483648", "1"],
+            b"",
+            &[1],
+            &[1],
+            b"",
+            Status::Usage,
+        ),
+        (
+            &["soak", "1", "1000001"],
+            b"",
+            &[1],
+            &[1],
+            b"",
+            Status::Usage,
+        ),
         (&[], THREE_LINES, &[1], &[1], b"", Status::Usage),
     ];
     for (words, script, takes, puts, report, status) in cases {

@@ -61,10 +61,12 @@ pub fn artheap<S: Source, W: Sink, F: Shelf>(
     match job_of(words) {
         None => Status::Usage,
         Some(Job::Run { regions }) => job_status(run_script(alloc, regions, source, sink, machine)),
-        Some(Job::Soak {
-            start,
-            count,
-            regions,
-        }) => job_status(soak(alloc, start, count, regions, sink, machine)),
+        Some(
+            Job::Soak {
+                start,
+                count,
+                regions,
+            },
+        ) => job_status(soak(alloc, start, count, regions, sink, machine)),
     }
 }

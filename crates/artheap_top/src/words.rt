@@ -8,7 +8,9 @@ use script_lang::read_count;
 #[derive(Clone, Copy, Debug, PartialEq, Eq)]
 pub(crate) enum Job {
     /// A script from the source is run, for processes with this budget of regions.
-    Run { regions: u32 },
+    Run {
+        regions: u32,
+    },
     /// A script that is generated from two numbers is run, and a summary put.
     Soak {
         start: u32,

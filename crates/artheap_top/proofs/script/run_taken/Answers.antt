@@ -23,4 +23,4 @@ returns-then-within-taken-clause-done g c = λ budget text gained full h.
     too_many_taken budget text taken run.room c.run_piece.new.feed (run.refused || c.in_ok-run.field-0) gained (g.W.Sink.gained c.run_piece.new.sink) c.run_piece.new.machine
     full more c.requires.piece
     (subst (λ k. HasRun budget (text ++ take k taken) c.run_piece.new.feed (run.refused || c.in_ok-run.field-0) gained (g.W.Sink.gained c.run_piece.new.sink) c.run_piece.new.machine) is
-      (c.in_ok-run.ensures.done budget text gained run.refused h))
+    (c.in_ok-run.ensures.done budget text gained run.refused h))
