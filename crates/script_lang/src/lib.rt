@@ -14,6 +14,5 @@ mod words;
 pub use feed::{Fed, LineFeed, nothing_is_left, pieces_give_the_lines};
 pub use heap_world::{Command, FieldList, Refusal, Reply, Verb};
 pub use numbers::count as read_count;
-pub use parts::split_line;
 pub use read::{LineError, read_line};
 pub use text::reply_text;

@@ -26,18 +26,3 @@ pub(crate) fn cut_blank(text: &[u8]) -> (&[u8], Option<&[u8]>)
         None => (text, None),
     }
 }
-
-/// The first line of a text, without its line feed, and the text behind it; nothing of an empty text.
-pub fn split_line(text: &[u8]) -> Option<(&[u8], &[u8])>
-    ensures lines { MatchOption result (lines text.now ≡ []) (λ r. lines text.now ≡ r.0.now ∷ lines r.1.now) }
-    ensures shorter { IfSome result (λ r. length r.1.now < length text.now) }
-{
-    if text.is_empty() {
-        return None;
-    }
-    let (line, rest) = cut(text, b'\n');
-    match rest {
-        Some(rest) => Some((line, rest)),
-        None => Some((line, &[])),
-    }
-}
