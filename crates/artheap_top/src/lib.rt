@@ -9,6 +9,7 @@ mod soak;
 mod status;
 mod step;
 mod stop;
+mod tally;
 mod top;
 mod words;
 
