@@ -1,7 +1,10 @@
 -- What is counted of lines, line by line.
-use Rattle.std.proofs.Common.{◌≡◌, ℕ, zero, suc, ◌+◌, Bool, true, false, List, [], ◌∷◌, ◌++◌, Option, None, Some, cond, filter, length, nat_lt, take, refl, sym, ◌∙◌, ap, subst, arith, append_assoc, length-append, suc-add}
+use Rattle.std.proofs.Common.{◌≡◌, ℕ, zero, suc, ◌+◌, ◌||◌, Bool, true, false, List, [], ◌∷◌, ◌++◌, Option, None, Some, cond, filter, length, nat_lt, slice_get, take, refl, sym, ◌∙◌, ap, subst, arith, append_assoc, length-append, suc-add}
 use Rattle.std.specs.List.{list_any}
+use Rattle.std.proofs.lemmas.Bool.Decides.{nat_tests}
+use Rattle.std.proofs.lemmas.List.{take_more}
 use Rattle.std.proofs.lemmas.List.Elements.{filter-append}
+use Rattle.std.proofs.lemmas.Option.{get_or_from_slice_get, slice_get_within}
 use Rattle.heap_world.specs.declared.reply.Reply.{Reply}
 use Rattle.heap_world.specs.Effect.{is_refusal}
 use Rattle.heap_world.specs.Run.{Answer}
@@ -91,6 +94,16 @@ refusals_tell (a ∷ given) = by (is_refusal a.reply) (refusals_tell given)
     refusals : List Answer
     refusals = filter (λ a. is_refusal a.reply) given
 
-    by : (b : Bool) → has_refusal given ≡ nat_lt 0 (length refusals) → cond b true (has_refusal given) ≡ nat_lt 0 (length (cond b (a ∷ refusals) refusals))
+    by : (b : Bool) → has_refusal given ≡ nat_lt 0 (length refusals) → (b || has_refusal given) ≡ nat_lt 0 (length (cond b (a ∷ refusals) refusals))
     by true rest = some_above (length refusals)
     by false rest = rest
+
+-- lines were run behind others, and one more
+pub soaks_more : (budget : ℕ) (before ls : List (List ℕ)) (line : List ℕ) (ls' : List (List ℕ)) (t : Tally) (machine : World)
+    → ls' ≡ ls ++ line ∷ [] → HasSoaked budget ((before ++ ls) ++ line ∷ []) t machine → HasSoaked budget (before ++ ls') t machine
+soaks_more budget before ls line ls' t machine is had =
+    subst (λ xs. HasSoaked budget xs t machine) (append_assoc before ls (line ∷ []) ∙ ap (λ xs. before ++ xs) (sym is)) had
+
+-- one more of a list's first elements
+pub take-found : {X : Type 0} (xs : List X) (k : ℕ) (x : X) → slice_get xs k ≡ Some x → take (k + 1) xs ≡ take k xs ++ x ∷ []
+take-found xs k x found = take_more xs k x (slice_get_within xs k x found) ∙ ap (λ y. take k xs ++ y ∷ []) (get_or_from_slice_get xs k x x found)

@@ -16,4 +16,4 @@ pub use heap_world::{Command, FieldList, Refusal, Reply, Verb};
 pub use numbers::count as read_count;
 pub use parts::split_line;
 pub use read::{LineError, read_line};
-pub use text::reply_text;
+pub use text::{put, put_number, reply_text};
