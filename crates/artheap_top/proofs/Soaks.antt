@@ -5,18 +5,23 @@ use Rattle.std.proofs.lemmas.Bool.Decides.{nat_tests}
 use Rattle.std.proofs.lemmas.List.{take_more}
 use Rattle.std.proofs.lemmas.List.Elements.{filter-append}
 use Rattle.std.proofs.lemmas.Option.{get_or_from_slice_get, slice_get_within}
+use Rattle.ah_outside.specs.Outside.{FaultRose, Gained, GainedPrefix}
 use Rattle.heap_world.specs.declared.reply.Reply.{Reply}
 use Rattle.heap_world.specs.Effect.{is_refusal}
 use Rattle.heap_world.specs.Run.{Answer}
-use Rattle.heap_world.specs.World.{World}
+use Rattle.heap_world.specs.World.{World, first_world}
 use Rattle.plain_machine.specs.Worlds.{StandsFor}
 use Rattle.script_make.specs.Lines.{made_line, next_state}
-use Rattle.script_make.specs.Script.{made_lines, state_after}
+use Rattle.script_make.specs.Script.{made_lines, soak_lines, state_after}
 use Rattle.script_make.specs.declared.state.MakeState.{MakeState}
+use Rattle.artheap_top.specs.declared.status.Status.TheVariants.{WriteFault}
+use Rattle.artheap_top.specs.declared.summary.Summary.{Summary}
 use Rattle.artheap_top.specs.declared.tally.Tally.{Tally}
+use Rattle.artheap_top.specs.Ends.{EndedSoak}
+use Rattle.artheap_top.specs.Progress.{refused_status}
 use Rattle.artheap_top.specs.Report.{answers_of, has_refusal, step_line, with_answer, world_of}
-use Rattle.artheap_top.specs.Soaking.{HasSoaked, counted, one_more_if}
-use Rattle.artheap_top.specs.Summary.{collection_count, refusal_count, tells_collection}
+use Rattle.artheap_top.specs.Soaking.{HasSoaked, counted, no_lines, one_more_if}
+use Rattle.artheap_top.specs.Summary.{collection_count, refusal_count, summary, summary_of, summary_text, tells_collection}
 use Rattle.artheap_top.proofs.Reports.{answers-more, next_answers, world-more}
 
 -- how many of the answers with one more pass a test
@@ -107,3 +112,24 @@ soaks_more budget before ls line ls' t machine is had =
 -- one more of a list's first elements
 pub take-found : {X : Type 0} (xs : List X) (k : ℕ) (x : X) → slice_get xs k ≡ Some x → take (k + 1) xs ≡ take k xs ++ x ∷ []
 take-found xs k x found = take_more xs k x (slice_get_within xs k x found) ∙ ap (λ y. take k xs ++ y ∷ []) (get_or_from_slice_get xs k x x found)
+
+-- nothing was counted before the first line
+pub soaks_begin : (budget : ℕ) (t : Tally) (machine : World) → t ≡ no_lines → StandsFor machine (first_world budget 1) → HasSoaked budget [] t machine
+soaks_begin budget t machine is stands = subst (λ u. HasSoaked budget [] u machine) (sym is) (record { lines = refl; refused = refl; collections = refl; stands = stands })
+
+module _ (budget start count : ℕ) (t : Tally) (s : Summary) (faults faults' : ℕ) (gained gained' : Option (List ℕ)) (machine : World)
+    (had : HasSoaked budget (soak_lines start count) t machine) (is : s ≡ summary_of budget start count (soak_lines start count)) where
+  -- the summary was put whole
+  pub soak_ends : Gained gained (summary_text s) gained' → EndedSoak budget start count (refused_status (nat_lt 0 t.refused)) gained gained' faults faults' machine
+  soak_ends put =
+      by (nat_lt 0 t.refused) (refusals_tell (answers_of budget (soak_lines start count)) ∙ ap (nat_lt 0) (sym had.refused))
+      (subst (λ u. Gained gained (summary_text u) gained') is put)
+    where
+      by : (b : Bool) → has_refusal (answers_of budget (soak_lines start count)) ≡ b → Gained gained (summary budget start count) gained'
+          → EndedSoak budget start count (refused_status b) gained gained' faults faults' machine
+      by true e told = (told, record { refusals = e; stands = had.stands })
+      by false e told = (told, record { refusals = e; stands = had.stands })
+
+  -- or in part
+  pub soak_stops : GainedPrefix gained (summary_text s) gained' → FaultRose faults faults' → EndedSoak budget start count WriteFault gained gained' faults faults' machine
+  soak_stops put rose = (subst (λ u. GainedPrefix gained (summary_text u) gained') is put, had.stands, rose)

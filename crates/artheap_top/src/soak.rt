@@ -1,9 +1,9 @@
 //! A script that is generated from two numbers, and its summary.
-ghost use Rattle.std.specs.Prelude.{◌≡◌, ◌+◌, ◌<◌, ◌≤◌, ◌^◌, ◌++◌, ◌∷◌, [], ℕ, List, OnOk};
-ghost use Rattle.heap_world.specs.World.{empty_world};
+ghost use Rattle.std.specs.Prelude.{◌≡◌, ◌+◌, ◌<◌, ◌≤◌, ◌^◌, ◌++◌, ◌∷◌, [], ℕ, List, IfOk, OnOk};
+ghost use Rattle.heap_world.specs.World.{empty_world, first_world};
 ghost use Rattle.plain_machine.specs.Worlds.{StandsFor};
 ghost use Rattle.script_make.specs.Boot.{boot_lines};
-ghost use Rattle.script_make.specs.Script.{first_state, made_lines};
+ghost use Rattle.script_make.specs.Script.{first_state, made_lines, soak_lines};
 ghost use Rattle.artheap_top.specs.Ends.{EndedSoak};
 ghost use Rattle.artheap_top.specs.Progress.{job_status};
 ghost use Rattle.artheap_top.specs.Soaking.{HasSoaked, IsWithinLines};
@@ -11,8 +11,9 @@ ghost use Rattle.artheap_top.specs.Soaking.{HasSoaked, IsWithinLines};
 use crate::Machine;
 use crate::step::step_line;
 use crate::stop::Stop;
+use crate::summary::Summary;
 use crate::tally::Tally;
-use ah_outside::Sink;
+use ah_outside::{Failed, Sink};
 use script_make::{MakeState, boot_line, line_of};
 use std::alloc::{AllocError, Global};
 
@@ -79,6 +80,23 @@ fn run_made(
     Ok(())
 }
 
+/// Runs the script that the generator makes of a start and a count, and counts its lines.
+fn run_script(
+    alloc: Global,
+    start: u32,
+    count: u32,
+    machine: &mut Machine,
+) -> Result<Tally, AllocError>
+    requires small { start < 2147483648 }
+    ensures { (budget : ℕ) → StandsFor machine.old (first_world budget 1) →
+        IfOk result (λ tally. HasSoaked budget (soak_lines start count) tally machine.new) }
+{
+    let mut tally = Tally::new();
+    run_fixed(alloc, &mut tally, machine)?;
+    run_made(alloc, start, count, &mut tally, machine)?;
+    Ok(tally)
+}
+
 /// Runs the script that the generator makes of a start and a count on a new machine, line by line, and puts its summary.
 /// Tells whether a reply was a refusal.
 pub(crate) fn soak<W: Sink>(
@@ -95,5 +113,10 @@ pub(crate) fn soak<W: Sink>(
     ensures never_falls { W.fault_count sink.old ≤ W.fault_count sink.new }
 {
     machine.prepare(regions, 1)?;
-    Err(Stop::Memory)
+    let tally = run_script(alloc, start, count, machine)?;
+    let summary = Summary::new(start, count, tally, machine)?;
+    match summary.put(sink) {
+        Ok(()) => Ok(tally.refused > 0),
+        Err(Failed) => Err(Stop::Write),
+    }
 }
