@@ -7,5 +7,6 @@ pub mod OwnTold
 pub mod Picked
 pub mod Reports
 pub mod Runs
+pub mod Soaks
 pub mod Taken
 pub mod Turns

@@ -11,7 +11,6 @@ use Rattle.artheap_top.specs.declared.stop.Stop.TheVariants.{Read, Write, Memory
 use Rattle.artheap_top.specs.declared.status.Status.{Status}
 use Rattle.artheap_top.specs.declared.status.Status.TheVariants as status
 use Rattle.artheap_top.specs.Ends.{RanLines, input_limit, piece_limit}
-use Rattle.artheap_top.specs.Summary.{collection_count, refusal_count}
 use Rattle.artheap_top.specs.Report.{answers_of, has_refusal, line_report, report_of, world_of}
 
 -- the status of a job that stopped
@@ -121,10 +120,3 @@ pub record StoppedLast (budget : ℕ) (text : List ℕ) (stop : Stop) (faults fa
   pub line : List ℕ
   pub got : lines text ≡ before ++ line ∷ []
   pub stopped : StoppedBehind stop budget before line faults faults' gained gained' machine
-
--- what was counted of the lines that were run: how many they are, how many answers are refusals, and how many tell a collection
-pub record HasSoaked (budget : ℕ) (ls : List (List ℕ)) (line_count refused collections : ℕ) (machine : World) : Type 0 where
-  pub line_count_is : line_count ≡ length ls
-  pub refused_is : refused ≡ refusal_count (answers_of budget ls)
-  pub collections_is : collections ≡ collection_count (answers_of budget ls)
-  pub stands : StandsFor machine (world_of budget ls)

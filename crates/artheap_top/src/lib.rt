@@ -9,6 +9,8 @@ mod soak;
 mod status;
 mod step;
 mod stop;
+mod summary;
+mod tally;
 mod top;
 mod words;
 

@@ -1,14 +1,101 @@
 //! A script that is generated from two numbers, and its summary.
-ghost use Rattle.std.specs.Prelude.{◌≡◌, ◌≤◌};
-ghost use Rattle.heap_world.specs.World.{empty_world};
+ghost use Rattle.std.specs.Prelude.{◌≡◌, ◌+◌, ◌<◌, ◌≤◌, ◌^◌, ◌++◌, ◌∷◌, [], ℕ, List, IfOk, OnOk};
+ghost use Rattle.heap_world.specs.World.{empty_world, first_world};
 ghost use Rattle.plain_machine.specs.Worlds.{StandsFor};
+ghost use Rattle.script_make.specs.Boot.{boot_lines};
+ghost use Rattle.script_make.specs.Script.{first_state, made_lines, soak_lines};
 ghost use Rattle.artheap_top.specs.Ends.{EndedSoak};
 ghost use Rattle.artheap_top.specs.Progress.{job_status};
+ghost use Rattle.artheap_top.specs.Soaking.{HasSoaked, IsWithinLines};
 
 use crate::Machine;
+use crate::step::step_line;
 use crate::stop::Stop;
-use ah_outside::Sink;
-use std::alloc::Global;
+use crate::summary::Summary;
+use crate::tally::Tally;
+use ah_outside::{Failed, Sink};
+use script_make::{MakeState, boot_line, line_of};
+use std::alloc::{AllocError, Global};
+
+/// Runs the line behind those that were counted, and counts it.
+fn run_line(
+    alloc: Global,
+    line: &[u8],
+    tally: &mut Tally,
+    machine: &mut Machine,
+) -> Result<(), AllocError>
+    requires few { tally.old.lines < 2 ^ 63 }
+    requires within { IsWithinLines tally.old }
+    ensures lines { OnOk result (tally.new.lines ≡ tally.old.lines + 1) }
+    ensures within { OnOk result (IsWithinLines tally.new) }
+    ensures done { (budget : ℕ) (before : List (List ℕ)) → HasSoaked budget before tally.old machine.old →
+        OnOk result (HasSoaked budget (before ++ line.now ∷ []) tally.new machine.new) }
+{
+    let reply = step_line(alloc, machine, tally.lines + 1, line)?;
+    tally.count(reply);
+    Ok(())
+}
+
+/// Runs the fixed lines.
+fn run_fixed(alloc: Global, tally: &mut Tally, machine: &mut Machine) -> Result<(), AllocError>
+    requires few { tally.old.lines < 2 ^ 62 }
+    requires within { IsWithinLines tally.old }
+    ensures lines { OnOk result (tally.new.lines ≡ tally.old.lines + 11) }
+    ensures within { OnOk result (IsWithinLines tally.new) }
+    ensures done { (budget : ℕ) (before : List (List ℕ)) → HasSoaked budget before tally.old machine.old →
+        OnOk result (HasSoaked budget (before ++ boot_lines) tally.new machine.new) }
+{
+    let mut buf = [0; 96];
+    let mut k = 0;
+    while let Some(end) = boot_line(k, &mut buf) {
+        run_line(alloc, &buf[..end], tally, machine)?;
+        k += 1;
+    }
+    Ok(())
+}
+
+/// Runs the made lines of a start, as many as the count says.
+fn run_made(
+    alloc: Global,
+    start: u32,
+    count: u32,
+    tally: &mut Tally,
+    machine: &mut Machine,
+) -> Result<(), AllocError>
+    requires small { start < 2147483648 }
+    requires few { tally.old.lines < 2 ^ 62 }
+    requires within { IsWithinLines tally.old }
+    ensures lines { OnOk result (tally.new.lines ≡ tally.old.lines + count) }
+    ensures within { OnOk result (IsWithinLines tally.new) }
+    ensures done { (budget : ℕ) (before : List (List ℕ)) → HasSoaked budget before tally.old machine.old →
+        OnOk result (HasSoaked budget (before ++ made_lines count (first_state start)) tally.new machine.new) }
+{
+    let mut buf = [0; 64];
+    let mut state = MakeState { x: start, forks: 0 };
+    for _ in 0..count {
+        let (end, next) = line_of(state, &mut buf);
+        run_line(alloc, &buf[..end], tally, machine)?;
+        state = next;
+    }
+    Ok(())
+}
+
+/// Runs the script that the generator makes of a start and a count, and counts its lines.
+fn run_script(
+    alloc: Global,
+    start: u32,
+    count: u32,
+    machine: &mut Machine,
+) -> Result<Tally, AllocError>
+    requires small { start < 2147483648 }
+    ensures { (budget : ℕ) → StandsFor machine.old (first_world budget 1) →
+        IfOk result (λ tally. HasSoaked budget (soak_lines start count) tally machine.new) }
+{
+    let mut tally = Tally::new();
+    run_fixed(alloc, &mut tally, machine)?;
+    run_made(alloc, start, count, &mut tally, machine)?;
+    Ok(tally)
+}
 
 /// Runs the script that the generator makes of a start and a count on a new machine, line by line, and puts its summary.
 /// Tells whether a reply was a refusal.
@@ -26,5 +113,10 @@ pub(crate) fn soak<W: Sink>(
     ensures never_falls { W.fault_count sink.old ≤ W.fault_count sink.new }
 {
     machine.prepare(regions, 1)?;
-    Err(Stop::Memory)
+    let tally = run_script(alloc, start, count, machine)?;
+    let summary = Summary::new(start, count, tally, machine)?;
+    match summary.put(sink) {
+        Ok(()) => Ok(tally.refused > 0),
+        Err(Failed) => Err(Stop::Write),
+    }
 }

@@ -4,8 +4,8 @@ ghost use Rattle.script_lang.specs.Texts.{refusal_text, collected_mark, reply_wo
 use crate::{Refusal, Reply};
 use itoa::{Buffer, Integer};
 
-/// Writes a piece behind the first `at` bytes, and tells where it ends.
-fn put(buf: &mut [u8; 512], at: usize, piece: &[u8]) -> usize
+/// Writes a piece behind the first `at` bytes of a buffer, and tells where it ends.
+pub fn put(buf: &mut [u8; 512], at: usize, piece: &[u8]) -> usize
     requires { at + length piece.now ≤ 512 }
     ensures written { take result buf.new ≡ take at buf.old ++ piece.now }
     ensures end { result ≡ at + length piece.now }
@@ -16,7 +16,7 @@ fn put(buf: &mut [u8; 512], at: usize, piece: &[u8]) -> usize
 }
 
 /// Writes a piece and a number in the same way. The number takes at most 40 bytes.
-fn put_number<I: Integer>(buf: &mut [u8; 512], at: usize, piece: &[u8], number: I) -> usize
+pub fn put_number<I: Integer>(buf: &mut [u8; 512], at: usize, piece: &[u8], number: I) -> usize
     requires { at + length piece.now + 40 ≤ 512 }
     ensures written { take result buf.new ≡ take at buf.old ++ piece.now ++ I.text number }
     ensures end { result ≤ at + length piece.now + 40 }

@@ -1,0 +1,135 @@
+-- What is counted of lines, line by line.
+use Rattle.std.proofs.Common.{◌≡◌, ℕ, zero, suc, ◌+◌, ◌||◌, Bool, true, false, List, [], ◌∷◌, ◌++◌, Option, None, Some, cond, filter, length, nat_lt, slice_get, take, refl, sym, ◌∙◌, ap, subst, arith, append_assoc, length-append, suc-add}
+use Rattle.std.specs.List.{list_any}
+use Rattle.std.proofs.lemmas.Bool.Decides.{nat_tests}
+use Rattle.std.proofs.lemmas.List.{take_more}
+use Rattle.std.proofs.lemmas.List.Elements.{filter-append}
+use Rattle.std.proofs.lemmas.Option.{get_or_from_slice_get, slice_get_within}
+use Rattle.ah_outside.specs.Outside.{FaultRose, Gained, GainedPrefix}
+use Rattle.heap_world.specs.declared.reply.Reply.{Reply}
+use Rattle.heap_world.specs.Effect.{is_refusal}
+use Rattle.heap_world.specs.Run.{Answer}
+use Rattle.heap_world.specs.World.{World, first_world}
+use Rattle.plain_machine.specs.Worlds.{StandsFor}
+use Rattle.script_make.specs.Lines.{made_line, next_state}
+use Rattle.script_make.specs.Script.{made_lines, soak_lines, state_after}
+use Rattle.script_make.specs.declared.state.MakeState.{MakeState}
+use Rattle.artheap_top.specs.declared.status.Status.TheVariants.{WriteFault}
+use Rattle.artheap_top.specs.declared.summary.Summary.{Summary}
+use Rattle.artheap_top.specs.declared.tally.Tally.{Tally}
+use Rattle.artheap_top.specs.Ends.{EndedSoak}
+use Rattle.artheap_top.specs.Progress.{refused_status}
+use Rattle.artheap_top.specs.Report.{answers_of, has_refusal, step_line, with_answer, world_of}
+use Rattle.artheap_top.specs.Soaking.{HasSoaked, counted, no_lines, one_more_if}
+use Rattle.artheap_top.specs.Summary.{collection_count, refusal_count, summary, summary_of, summary_text, tells_collection}
+use Rattle.artheap_top.proofs.Reports.{answers-more, next_answers, world-more}
+
+-- how many of the answers with one more pass a test
+count-more : (p : Answer → Bool) (budget : ℕ) (ls : List (List ℕ)) (l : List ℕ)
+    → length (filter p (answers_of budget (ls ++ l ∷ []))) ≡ length (filter p (answers_of budget ls)) + length (filter p (next_answers budget ls l))
+count-more p budget ls l =
+    ap (λ given. length (filter p given)) (answers-more budget ls l)
+    ∙ (ap length (filter-append p (answers_of budget ls) (next_answers budget ls l))
+    ∙ length-append (filter p (answers_of budget ls)) (filter p (next_answers budget ls l)))
+
+-- one answer is counted where it passes
+count-one : (p : Answer → Bool) (a : Answer) (m : ℕ) → m + length (filter p (a ∷ [])) ≡ one_more_if (p a) m
+count-one p a m = by (p a)
+  where
+    by : (b : Bool) → m + length (cond b (a ∷ []) []) ≡ one_more_if b m
+    by true = refl
+    by false = omega arith
+
+count-none : (m : ℕ) → m + 0 ≡ m
+count-none m = omega arith
+
+-- what was counted of a line's answer
+counted-refused : (n : ℕ) (o : Option Reply) (t : Tally) → t.refused + refusal_count (with_answer n o []) ≡ (counted t o).refused
+counted-refused n None t = count-none t.refused
+counted-refused n (Some r) t = count-one (λ a. is_refusal a.reply) (record { line = n; reply = r }) t.refused
+
+counted-collections : (n : ℕ) (o : Option Reply) (t : Tally) → t.collections + collection_count (with_answer n o []) ≡ (counted t o).collections
+counted-collections n None t = count-none t.collections
+counted-collections n (Some r) t = count-one (λ a. tells_collection a.reply) (record { line = n; reply = r }) t.collections
+
+counted-lines : (o : Option Reply) (t : Tally) → (counted t o).lines ≡ t.lines + 1
+counted-lines None t = refl
+counted-lines (Some r) t = refl
+
+-- a line was run behind others, and counted
+pub soaks_behind : (budget : ℕ) (before : List (List ℕ)) (line : List ℕ) (n : ℕ) (o : Option Reply) (t : Tally) (machine machine' : World)
+    → HasSoaked budget before t machine → n ≡ t.lines + 1 → o ≡ (step_line (world_of budget before) n line).reply
+    → StandsFor machine' (step_line (world_of budget before) n line).world
+    → HasSoaked budget (before ++ line ∷ []) (counted t o) machine'
+soaks_behind budget before line n o t machine machine' had at is stands =
+    let at' : n ≡ 1 + length before = omega (arith, at, had.lines) in
+    let given : with_answer (1 + length before) o [] ≡ next_answers budget before line =
+    ap (λ p. with_answer (1 + length before) p []) (subst (λ k. o ≡ (step_line (world_of budget before) k line).reply) at' is) in
+    record {
+      lines = counted-lines o t ∙ (ap (λ m. m + 1) had.lines ∙ sym (length-append before (line ∷ [])));
+      refused = sym (counted-refused (1 + length before) o t)
+          ∙ (ap (λ m. m + refusal_count (with_answer (1 + length before) o [])) had.refused
+          ∙ (ap (λ xs. refusal_count (answers_of budget before) + refusal_count xs) given
+          ∙ sym (count-more (λ a. is_refusal a.reply) budget before line)));
+      collections = sym (counted-collections (1 + length before) o t)
+          ∙ (ap (λ m. m + collection_count (with_answer (1 + length before) o [])) had.collections
+          ∙ (ap (λ xs. collection_count (answers_of budget before) + collection_count xs) given
+          ∙ sym (count-more (λ a. tells_collection a.reply) budget before line)));
+      stands = subst (StandsFor machine') (sym (world-more budget before line))
+          (subst (λ k. StandsFor machine' (step_line (world_of budget before) k line).world) at' stands);
+    }
+
+-- one more made line
+pub made_lines-more : (n : ℕ) (s : MakeState) → made_lines (n + 1) s ≡ made_lines n s ++ made_line (state_after n s) ∷ []
+made_lines-more zero s = refl
+made_lines-more (suc n) s = rw suc-add (ap (λ ls. made_line s ∷ ls) (made_lines-more n (next_state s)))
+
+pub state_after-more : (n : ℕ) (s : MakeState) → state_after (n + 1) s ≡ next_state (state_after n s)
+state_after-more zero s = refl
+state_after-more (suc n) s = rw suc-add (state_after-more n (next_state s))
+
+some_above : (n : ℕ) → true ≡ nat_lt 0 (suc n)
+some_above n = grind (arith, nat_tests)
+
+-- some answer is a refusal where refusals were counted
+pub refusals_tell : (given : List Answer) → has_refusal given ≡ nat_lt 0 (refusal_count given)
+refusals_tell [] = refl
+refusals_tell (a ∷ given) = by (is_refusal a.reply) (refusals_tell given)
+  where
+    refusals : List Answer
+    refusals = filter (λ a. is_refusal a.reply) given
+
+    by : (b : Bool) → has_refusal given ≡ nat_lt 0 (length refusals) → (b || has_refusal given) ≡ nat_lt 0 (length (cond b (a ∷ refusals) refusals))
+    by true rest = some_above (length refusals)
+    by false rest = rest
+
+-- lines were run behind others, and one more
+pub soaks_more : (budget : ℕ) (before ls : List (List ℕ)) (line : List ℕ) (ls' : List (List ℕ)) (t : Tally) (machine : World)
+    → ls' ≡ ls ++ line ∷ [] → HasSoaked budget ((before ++ ls) ++ line ∷ []) t machine → HasSoaked budget (before ++ ls') t machine
+soaks_more budget before ls line ls' t machine is had =
+    subst (λ xs. HasSoaked budget xs t machine) (append_assoc before ls (line ∷ []) ∙ ap (λ xs. before ++ xs) (sym is)) had
+
+-- one more of a list's first elements
+pub take-found : {X : Type 0} (xs : List X) (k : ℕ) (x : X) → slice_get xs k ≡ Some x → take (k + 1) xs ≡ take k xs ++ x ∷ []
+take-found xs k x found = take_more xs k x (slice_get_within xs k x found) ∙ ap (λ y. take k xs ++ y ∷ []) (get_or_from_slice_get xs k x x found)
+
+-- nothing was counted before the first line
+pub soaks_begin : (budget : ℕ) (t : Tally) (machine : World) → t ≡ no_lines → StandsFor machine (first_world budget 1) → HasSoaked budget [] t machine
+soaks_begin budget t machine is stands = subst (λ u. HasSoaked budget [] u machine) (sym is) (record { lines = refl; refused = refl; collections = refl; stands = stands })
+
+module _ (budget start count : ℕ) (t : Tally) (s : Summary) (faults faults' : ℕ) (gained gained' : Option (List ℕ)) (machine : World)
+    (had : HasSoaked budget (soak_lines start count) t machine) (is : s ≡ summary_of budget start count (soak_lines start count)) where
+  -- the summary was put whole
+  pub soak_ends : Gained gained (summary_text s) gained' → EndedSoak budget start count (refused_status (nat_lt 0 t.refused)) gained gained' faults faults' machine
+  soak_ends put =
+      by (nat_lt 0 t.refused) (refusals_tell (answers_of budget (soak_lines start count)) ∙ ap (nat_lt 0) (sym had.refused))
+      (subst (λ u. Gained gained (summary_text u) gained') is put)
+    where
+      by : (b : Bool) → has_refusal (answers_of budget (soak_lines start count)) ≡ b → Gained gained (summary budget start count) gained'
+          → EndedSoak budget start count (refused_status b) gained gained' faults faults' machine
+      by true e told = (told, record { refusals = e; stands = had.stands })
+      by false e told = (told, record { refusals = e; stands = had.stands })
+
+  -- or in part
+  pub soak_stops : GainedPrefix gained (summary_text s) gained' → FaultRose faults faults' → EndedSoak budget start count WriteFault gained gained' faults faults' machine
+  soak_stops put rose = (subst (λ u. GainedPrefix gained (summary_text u) gained') is put, had.stands, rose)

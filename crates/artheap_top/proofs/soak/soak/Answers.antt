@@ -1,0 +1,26 @@
+use Rattle.script_make.specs.Script.{soak_lines}
+use Rattle.artheap_top.specs.Soaking.{HasSoaked}
+use Rattle.artheap_top.proofs.Soaks.{soak_ends, soak_stops}
+use Rattle.artheap_top.proofs.soak.soak.Goals as goal
+
+pub returns-in-Ok-clause-ended : goal.returns-in-Ok-clause-ended
+returns-in-Ok-clause-ended g c =
+    let regions = c.args.regions in
+    let start = c.args.start in
+    let count = c.args.count in
+    let told = g.W.Sink.gained in
+    let faults = g.W.Sink.fault_count in
+    let had : HasSoaked regions (soak_lines start count) c.in_ok-tally.tally c.run_script.new.machine = c.in_ok-tally.ensures regions c.in_ok-prepare.ensures.ok in
+    soak_ends regions start count c.in_ok-tally.tally c.in_ok-summary.summary (faults c.args.sink.now) (faults c.put.new.sink) (told c.args.sink.now) (told c.put.new.sink) c.run_script.new.machine
+    had (c.in_ok-summary.ensures regions (soak_lines start count) had) c.in-Ok.ensures.ok
+
+pub returns-in-Err-clause-ended : goal.returns-in-Err-clause-ended
+returns-in-Err-clause-ended g c =
+    let regions = c.args.regions in
+    let start = c.args.start in
+    let count = c.args.count in
+    let told = g.W.Sink.gained in
+    let faults = g.W.Sink.fault_count in
+    let had : HasSoaked regions (soak_lines start count) c.in_ok-tally.tally c.run_script.new.machine = c.in_ok-tally.ensures regions c.in_ok-prepare.ensures.ok in
+    soak_stops regions start count c.in_ok-tally.tally c.in_ok-summary.summary (faults c.args.sink.now) (faults c.put.new.sink) (told c.args.sink.now) (told c.put.new.sink) c.run_script.new.machine
+    had (c.in_ok-summary.ensures regions (soak_lines start count) had) c.in-Err.ensures.failed c.in-Err.ensures.cause

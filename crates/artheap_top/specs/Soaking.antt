@@ -1,0 +1,39 @@
+-- What is counted while the lines of a soak are run.
+use Rattle.std.specs.Prelude.{◌≡◌, ℕ, ◌+◌, ◌≤◌, Bool, true, false, List, Option, None, Some, length}
+use Rattle.heap_world.specs.declared.reply.Reply.{Reply}
+use Rattle.heap_world.specs.Effect.{is_refusal}
+use Rattle.heap_world.specs.World.{World}
+use Rattle.plain_machine.specs.Worlds.{StandsFor}
+use Rattle.artheap_top.specs.declared.tally.Tally.{Tally}
+use Rattle.artheap_top.specs.Report.{answers_of, world_of}
+use Rattle.artheap_top.specs.Summary.{collection_count, refusal_count, tells_collection}
+
+-- no line was counted
+abbrev pub no_lines : Tally
+no_lines = record { lines = 0; refused = 0; collections = 0 }
+
+-- a count after one more, where it is to be counted
+abbrev pub one_more_if : Bool → ℕ → ℕ
+one_more_if true n = n + 1
+one_more_if false n = n
+
+-- what was counted after a line and its reply, if it has one
+abbrev pub counted : Tally → Option Reply → Tally
+counted t None = record t { lines = t.lines + 1 }
+counted t (Some r) = record {
+  lines = t.lines + 1;
+  refused = one_more_if (is_refusal r) t.refused;
+  collections = one_more_if (tells_collection r) t.collections;
+}
+
+-- no count is above that of the lines
+pub record IsWithinLines (t : Tally) : Type 0 where
+  pub refused : t.refused ≤ t.lines
+  pub collections : t.collections ≤ t.lines
+
+-- lines were run: what was counted of them, and the machine stands for the world after them
+pub record HasSoaked (budget : ℕ) (ls : List (List ℕ)) (t : Tally) (machine : World) : Type 0 where
+  pub lines : t.lines ≡ length ls
+  pub refused : t.refused ≡ refusal_count (answers_of budget ls)
+  pub collections : t.collections ≡ collection_count (answers_of budget ls)
+  pub stands : StandsFor machine (world_of budget ls)
