@@ -129,3 +129,36 @@ fn one_byte_is_too_many(rt: HostRuntime) -> Result<(), Fail> {
     assert_eq!(rt; sink.bytes(), b"".as_slice());
     Ok(())
 }
+
+/// What a soak puts, and its status.
+fn soak(alloc: Global, words: &[&str]) -> Result<(Vec<u8>, Status), AllocError> {
+    let mut source = MemorySource::new(alloc, b"zygote gc\n", 7, &[])?;
+    let mut sink = MemorySink::new(alloc, 1_000, &[])?;
+    let status = call(alloc, words, &mut source, &mut sink)?;
+    Ok((Vec::from_slice(alloc, sink.bytes())?, status))
+}
+
+#[test]
+fn soaks_put_their_summaries(rt: HostRuntime) -> Result<(), Fail> {
+    let alloc = rt.alloc();
+    let none: &[u8] =
+        b"soak 1 0\nlines 11\nrefused 0\ncollections 0\nprocesses 1\nobjects 9\nframes 1\n";
+    let two: &[u8] =
+        b"soak 1 2\nlines 13\nrefused 0\ncollections 0\nprocesses 1\nobjects 9\nframes 1\n";
+    for (words, text) in [(["soak", "1", "0"], none), (["soak", "1", "2"], two)] {
+        let (summary, status) = soak(alloc, &words)?;
+        assert_eq!(rt; summary.as_slice(), text);
+        assert_eq!(rt; status, Status::Ok);
+    }
+    let long = ["soak", "7", "100000", "--regions", "2"];
+    let (first, status) = soak(alloc, &long)?;
+    let (second, _) = soak(alloc, &long)?;
+    assert_eq!(rt; status, Status::Refused);
+    assert!(rt;
+        first
+            .as_slice()
+            .starts_with(b"soak 7 100000\nlines 100011\nrefused ")
+    );
+    assert_eq!(rt; first.as_slice(), second.as_slice());
+    Ok(())
+}
