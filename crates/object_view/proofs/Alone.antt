@@ -1,7 +1,7 @@
 -- Pages that have their frames alone, over a change of some pages.
 use Rattle.std.proofs.Common.{◌≡◌, ◌≢◌, ◌⊎◌, ◌∙◌, ℕ, ◌+◌, ◌<◌, ◌≤◌, Option, Some, None, true≢false, IsTrue, refl, sym, ap, subst, inl, inr}
 use Rattle.std.specs.Prelude.{option_map, is_some}
-use Rattle.std.proofs.lemmas.Bool.{cases_eq, cases_lt}
+use Rattle.std.proofs.lemmas.Bool.{cases_eq}
 use Rattle.cow_pages.specs.Memory.{Memory, Page, page_at, frame_at, is_mapped, is_written, flag_of, HasOneSharer, IsShared}
 use Rattle.object_view.specs.Changes.{ChangesPages}
 use Rattle.object_view.proofs.Spans.{frame-same, not-shared}

@@ -5,7 +5,7 @@ use Rattle.cow_pages.specs.Memory.{Memory}
 use Rattle.cow_pages.specs.View.{view_of}
 use Rattle.heap_graph.specs.Sizes.{size_in}
 use Rattle.object_view.specs.declared.names.Header.TheVariants.{Number}
-use Rattle.object_view.specs.Changes.{pages_in, AreAlone, ChangesPages, WritesSpan, WritesWords}
+use Rattle.object_view.specs.Changes.{pages_in, AreAlone, WritesSpan, WritesWords}
 use Rattle.object_view.proofs.Laid.{size-bounds}
 use Rattle.object_view.proofs.Outcomes.{either, is_ok_unless}
 use Rattle.object_view.proofs.Spans.{OthersSeen-pages}
