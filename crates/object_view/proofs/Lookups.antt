@@ -8,7 +8,7 @@ use Rattle.object_view.specs.declared.names.Slot.{Slot}
 use Rattle.class_layout.specs.declared.kind.Kind.{Kind}
 use Rattle.class_layout.specs.declared.kind.Kind.TheVariants.{Ref, Boolean, Byte, Char, Short, Int, Long}
 use Rattle.cow_pages.specs.Memory.{Memory}
-use Rattle.cow_pages.specs.View.{View, byte_at, view_of, u32_at}
+use Rattle.cow_pages.specs.View.{byte_at, u32_at, view_of, SameView, View}
 use Rattle.heap_graph.specs.declared.names.Shape.{Shape}
 use Rattle.heap_graph.specs.declared.names.Shape.TheVariants.{Instance, Array}
 use Rattle.object_view.specs.declared.names.Header.{Header}
@@ -70,6 +70,10 @@ array-only v at (Array other n) kind count has word length =
 pub byte-reads : (m : Memory) (t n at : ℕ) → byte_at (record m { reads = n }) t at ≡ byte_at m t at
 unfolding byte_at
 byte-reads m t n at = refl
+
+-- and the table is seen as it was
+pub SameView-reads : (m : Memory) (t n : ℕ) → SameView (view_of m t) (view_of (record m { reads = n }) t)
+SameView-reads m t n = record { byte = byte-reads m t n; mapped = λ at. refl }
 
 pub number-reads : (m : Memory) (t n : ℕ) (kind : Kind) (at : ℕ) → number_at (view_of (record m { reads = n }) t) kind at ≡ number_at (view_of m t) kind at
 number-reads m t n kind at = number-same (view_of m t) (view_of (record m { reads = n }) t) kind at at (λ i below. byte-reads m t n (at + i))

@@ -9,7 +9,7 @@ ghost use Rattle.class_layout.specs.Placing.{IsIn};
 ghost use Rattle.cow_pages.specs.declared.address.Addr.{Addr};
 ghost use Rattle.cow_pages.specs.Address.{page_of};
 ghost use Rattle.cow_pages.specs.Memory.{frame_at, is_mapped, is_written, HasOneSharer, IsSound, Memory};
-ghost use Rattle.cow_pages.specs.View.{view_of, View};
+ghost use Rattle.cow_pages.specs.View.{view_of, SameView, View};
 ghost use Rattle.heap_graph.specs.declared.names.Shape.{Shape};
 ghost use Rattle.heap_graph.specs.Sizes.{size_in};
 ghost use Rattle.object_view.specs.declared.names.Header.{Header};
@@ -71,8 +71,10 @@ pub fn same_values_stand()
 
 /// Classes that come later change nothing of an object whose class is there.
 pub fn more_classes_stand()
+    ensures known { (cs more : List Class) (shape : Shape) → IsKnown cs shape → IsKnown (cs ++ more) shape }
     ensures size { (cs more : List Class) (shape : Shape) → IsKnown cs shape → size_in (cs ++ more) shape ≡ size_in cs shape }
     ensures places { (cs more : List Class) (shape : Shape) → IsKnown cs shape → places_of (cs ++ more) shape ≡ places_of cs shape }
+    ensures references { (cs more : List Class) (shape : Shape) (k : ℕ) → IsKnown cs shape → reference_place (cs ++ more) shape k ≡ reference_place cs shape k }
     ensures object { (cs more : List Class) (v : View) (at : ℕ) (shape : Shape) (header : Header) (values : FieldAt → ℤ) → IsKnown cs shape
         → Stands cs v at shape header values → Stands (cs ++ more) v at shape header values }
     ensures before { (cs more : List Class) (v : View) (at : ℕ) (shape : Shape) (header : Header) (values : FieldAt → ℤ) → IsKnown cs shape
@@ -105,6 +107,13 @@ pub fn others_stand()
     ensures { (cs : List Class) (old new : View) (at from to : ℕ) (shape : Shape) (header : Header) (values : FieldAt → ℤ)
         → Stands cs old at shape header values → ChangesWithin old new from to → (at + size_in cs shape ≤ from) ⊎ (to ≤ at)
         → Stands cs new at shape header values }
+{}
+
+/// An object stands as it stood where a table has the same bytes and the same mapped addresses, as after a read.
+pub fn seen_objects_stand()
+    ensures object { (cs : List Class) (old new : View) (at : ℕ) (shape : Shape) (header : Header) (values : FieldAt → ℤ)
+        → Stands cs old at shape header values → SameView old new → Stands cs new at shape header values }
+    ensures reads { (m : Memory) (t n : ℕ) → SameView (view_of m t) (view_of (record m { reads = n }) t) }
 {}
 
 /// What stands for an object is each of its bytes: where the same object stands twice, the bytes are the same.
