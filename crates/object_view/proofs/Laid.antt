@@ -229,7 +229,7 @@ laid-rise low high (r ∷ ps) zero (suc k) p q laid below at_j at_k =
 laid-rise low high (r ∷ ps) (suc j) (suc k) p q laid below at_j at_k = laid-rise (r.offset + kind_bytes r.kind) high ps j k p q laid.2 (omega arith) at_j at_k
 
 -- a kind of references is that of references
-ref-kind : (kind : Kind) → is_ref kind ≡ true → kind ≡ Ref
+pub ref-kind : (kind : Kind) → is_ref kind ≡ true → kind ≡ Ref
 ref-kind Ref is = refl
 ref-kind Boolean is = absurd (true≢false (sym is))
 ref-kind Byte is = absurd (true≢false (sym is))

@@ -3,6 +3,8 @@ pub mod Numbers
 pub mod Laid
 pub mod Standing
 pub mod Spans
+pub mod Alone
+pub mod References
 pub mod Heads
 pub mod Lookups
 pub mod Stores

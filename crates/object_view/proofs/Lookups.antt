@@ -1,6 +1,6 @@
 -- What the words of an object tell.
-use Rattle.std.proofs.Common.{Bool, true, List, Option, Some, None, ◌≡◌, ◌∙◌, ℕ, ◌+◌, ◌*◌, ◌-◌, ◌%◌, ◌^◌, ◌<◌, ◌≤◌, refl, sym, ap, arith}
-use Rattle.std.specs.Prelude.{◌==◌, if◌then◌else◌, option_map}
+use Rattle.std.proofs.Common.{Bool, true, ℤ, subst, List, Option, Some, None, ◌≡◌, ◌∙◌, ℕ, ◌+◌, ◌*◌, ◌-◌, ◌%◌, ◌^◌, ◌<◌, ◌≤◌, refl, sym, ap, arith}
+use Rattle.std.specs.Prelude.{◌==◌, if◌then◌else◌, option_map, IsSomeAnd}
 use Rattle.std.proofs.lemmas.Option.{same_Some, none-some}
 use Rattle.class_layout.specs.ClassList.{Class}
 use Rattle.class_layout.specs.declared.kind.FieldAt.{FieldAt}
@@ -8,16 +8,17 @@ use Rattle.object_view.specs.declared.names.Slot.{Slot}
 use Rattle.class_layout.specs.declared.kind.Kind.{Kind}
 use Rattle.class_layout.specs.declared.kind.Kind.TheVariants.{Ref, Boolean, Byte, Char, Short, Int, Long}
 use Rattle.cow_pages.specs.Memory.{Memory}
-use Rattle.cow_pages.specs.View.{View, byte_at, view_of, u32_at}
+use Rattle.cow_pages.specs.View.{byte_at, u32_at, view_of, SameView, View}
 use Rattle.heap_graph.specs.declared.names.Shape.{Shape}
 use Rattle.heap_graph.specs.declared.names.Shape.TheVariants.{Instance, Array}
 use Rattle.object_view.specs.declared.names.Header.{Header}
 use Rattle.object_view.specs.declared.names.Header.TheVariants.{Number, Forward}
-use Rattle.object_view.specs.Objects.{reference_place, slot_at, HasShape, IsObject}
-use Rattle.object_view.specs.Values.{number_at}
+use Rattle.object_view.specs.Objects.{reference_place, slot_at, HasShape, IsObject, IsSlotOf, Stands}
+use Rattle.object_view.specs.Values.{is_value, number_at}
 use Rattle.object_view.specs.Words.{array_word, lock_word, IsHeader}
 use Rattle.object_view.proofs.Numbers.{number-same}
 use Rattle.object_view.proofs.Laid.{place-within, reference-in}
+use Rattle.object_view.proofs.Stores.{loaded}
 
 -- a word that tells where an object went tells an address of 32 bits
 pub forward-small : (word : ℕ) (header : Header) → IsHeader header → word ≡ lock_word header → 0xc0000000 ≤ word → (word - 0xc0000000) * 8 < 2 ^ 32
@@ -70,6 +71,10 @@ pub byte-reads : (m : Memory) (t n at : ℕ) → byte_at (record m { reads = n }
 unfolding byte_at
 byte-reads m t n at = refl
 
+-- and the table is seen as it was
+pub SameView-reads : (m : Memory) (t n : ℕ) → SameView (view_of m t) (view_of (record m { reads = n }) t)
+SameView-reads m t n = record { byte = byte-reads m t n; mapped = λ at. refl }
+
 pub number-reads : (m : Memory) (t n : ℕ) (kind : Kind) (at : ℕ) → number_at (view_of (record m { reads = n }) t) kind at ≡ number_at (view_of m t) kind at
 number-reads m t n kind at = number-same (view_of m t) (view_of (record m { reads = n }) t) kind at at (λ i below. byte-reads m t n (at + i))
 
@@ -115,3 +120,16 @@ pub slot-is : (v : View) (at offset target : ℕ) (weak : Bool) (place : FieldAt
 slot-is v at offset target weak place offset_is weak_is target_is =
     let slot : ℕ → ℕ → Bool → Option Slot = λ o n w. Some (record { at = record { 0 = at + o }; target = record { 0 = n }; weak = w }) in
     ap (λ n. slot offset n weak) target_is ∙ ap (λ o. slot o (u32_at v (at + o)) weak) (sym offset_is) ∙ ap (λ w. slot place.offset (u32_at v (at + place.offset)) w) (sym weak_is)
+
+-- the slot that is found is that of the object's place
+pub slot-object : (cs : List Class) (v : View) (at : ℕ) (shape : Shape) (header : Header) (values : FieldAt → ℤ) (k : ℕ) (place : FieldAt) (found : Option Slot) → Stands cs v at shape header values
+    → reference_place cs shape k ≡ Some place → is_value Ref (values place) ≡ true → found ≡ option_map (slot_at v at) (reference_place cs shape k) → IsSomeAnd found (IsSlotOf at place values)
+slot-object cs v at shape header values k place found s is value found_is =
+    let there = reference-in cs shape k place is in
+    let slot : IsSlotOf at place values (slot_at v at place) = record {
+      at_is = refl;
+      target_is = loaded cs v at shape header values Ref place.offset place s (record { is_in = there.0; kind_is = there.1; offset_is = refl }) value;
+      weak_is = refl;
+    } in
+    let e : found ≡ Some (slot_at v at place) = found_is ∙ ap (option_map (slot_at v at)) is in
+    subst (λ (o : Option Slot). IsSomeAnd o (IsSlotOf at place values)) (sym e) slot

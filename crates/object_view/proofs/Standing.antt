@@ -1,5 +1,5 @@
 -- Objects that stand, and what a change of memory leaves of them.
-use Rattle.std.proofs.Common.{cond, ◌≡◌, ◌⊎◌, ◌∙◌, ℕ, ◌+◌, ◌%◌, ◌^◌, ◌<◌, ◌≤◌, List, [], ◌∷◌, refl, sym, ap, subst, inl, inr, arith, ℤ}
+use Rattle.std.proofs.Common.{cond, false, map, length-append, slice_get, ◌++◌, ◌≡◌, ◌⊎◌, ◌∙◌, ℕ, ◌+◌, ◌%◌, ◌^◌, ◌<◌, ◌≤◌, List, [], ◌∷◌, refl, sym, ap, subst, inl, inr, arith, ℤ}
 use Rattle.std.specs.List.{AllByRecursion}
 use Rattle.std.proofs.lemmas.Bool.{eq-eqb, ne_eqb}
 use Rattle.class_layout.specs.Placing.{IsIn}
@@ -9,14 +9,16 @@ use Rattle.class_layout.specs.declared.kind.Kind.{Kind}
 use Rattle.class_layout.specs.declared.kind.Kind.TheVariants.{Int}
 use Rattle.class_layout.specs.declared.kind.FieldAt.{FieldAt}
 use Rattle.class_layout.specs.ClassList.{Class}
-use Rattle.class_layout.specs.Kinds.{kind_bytes}
-use Rattle.cow_pages.specs.View.{View, u32_at}
+use Rattle.class_layout.specs.Kinds.{kind_bytes, next_multiple}
+use Rattle.class_layout.specs.Layout.{references, Laid, Placed}
+use Rattle.class_layout.proofs.Layouts.{layout_of-push_old}
+use Rattle.cow_pages.specs.View.{u32_at, SameView, View}
 use Rattle.heap_graph.specs.declared.names.Shape.{Shape}
 use Rattle.heap_graph.specs.declared.names.Shape.TheVariants.{Instance, Array}
 use Rattle.heap_graph.specs.Sizes.{size_in, unrounded}
 use Rattle.object_view.specs.declared.names.Header.{Header}
 use Rattle.object_view.specs.Changes.{ChangesWithin, HasBytes, PutsNumber}
-use Rattle.object_view.specs.Objects.{places_of, IsPlace, IsSpace, HasShape, HasHeader, Stands}
+use Rattle.object_view.specs.Objects.{is_in_value, places_of, reference_place, IsKnown, IsPlace, IsSpace, HasShape, HasHeader, Stands}
 use Rattle.object_view.specs.Values.{number_at, number_of, no_values, with_value}
 use Rattle.object_view.specs.Words.{head_end, class_word, lock_word, HasLength, IsHeader}
 use Rattle.object_view.proofs.Numbers.{number-same, number-zero}
@@ -73,6 +75,11 @@ pub Stands-beside : (cs : List Class) (v w : View) (at from to : ℕ) (shape : S
 Stands-beside cs v w at from to shape header values s changes beside =
     Stands-copied cs v w at at shape header values s s.aligned (space-kept v w at (size_in cs shape) changes.mapped s.space)
     (λ i below. changes.others (at + i) (elim beside [ inl before ↦ inl (omega arith) | inr behind ↦ inr (omega arith) ]))
+
+-- an object in a table that is seen as it was
+pub Stands-seen : (cs : List Class) (v w : View) (at : ℕ) (shape : Shape) (header : Header) (values : FieldAt → ℤ) → Stands cs v at shape header values → SameView v w → Stands cs w at shape header values
+Stands-seen cs v w at shape header values s same =
+    Stands-copied cs v w at at shape header values s s.aligned (space-kept v w at (size_in cs shape) same.mapped s.space) (λ i below. same.byte (at + i))
 
 -- a number beside what changed
 pub number-beside : (v w : View) (from to : ℕ) (kind : Kind) (at : ℕ) → ChangesWithin v w from to → (at + kind_bytes kind ≤ from) ⊎ (to ≤ at) → number_at w kind at ≡ number_at v kind at
@@ -170,6 +177,57 @@ Stands-forwarded cs v w at shape header values to s multiple small puts =
           (λ p low high is. number-beside v w (at + 4) (at + 4 + 4) p.kind (at + p.offset) puts.rest (inr (omega (arith, low, bounds.2))) ∙ is);
       zeros = λ i low high none. puts.rest.others (at + i) (inr (omega (arith, low, bounds.2))) ∙ s.zeros i low high none;
     }
+
+-- what holds of places gives what holds of them, given that they are places
+all-within : (P Q : FieldAt → Type 0) (ps : List FieldAt) → AllByRecursion P ps → ((p : FieldAt) → IsIn p ps → P p → Q p) → AllByRecursion Q ps
+all-within P Q [] all step = tt
+all-within P Q (p ∷ ps) all step = (step p (inl refl) all.0, all-within P Q ps all.1 (λ q there. step q (inr there)))
+
+-- an object with other values that are the same at its places
+pub Stands-same : (cs : List Class) (v : View) (at : ℕ) (shape : Shape) (header : Header) (values others : FieldAt → ℤ) → Stands cs v at shape header values
+    → ((p : FieldAt) → IsIn p (places_of cs shape) → others p ≡ values p) → Stands cs v at shape header others
+Stands-same cs v at shape header values others s same = record {
+  aligned = s.aligned;
+  space = s.space;
+  header_fits = s.header_fits;
+  class_is = s.class_is;
+  lock_is = s.lock_is;
+  length_is = s.length_is;
+  numbers = all-within (λ p. number_at v p.kind (at + p.offset) ≡ number_of p.kind (values p)) (λ p. number_at v p.kind (at + p.offset) ≡ number_of p.kind (others p))
+      (places_of cs shape) s.numbers (λ p there is. is ∙ ap (number_of p.kind) (sym (same p there)));
+  zeros = s.zeros;
+}
+
+-- an object under other classes that give its shape the same places and the same size
+pub Stands-classes : (cs ds : List Class) (v : View) (at : ℕ) (shape : Shape) (header : Header) (values : FieldAt → ℤ) → size_in ds shape ≡ size_in cs shape → places_of ds shape ≡ places_of cs shape
+    → Stands cs v at shape header values → Stands ds v at shape header values
+Stands-classes cs ds v at shape header values size places s = record {
+  aligned = s.aligned;
+  space = subst (IsSpace v at) (sym size) s.space;
+  header_fits = s.header_fits;
+  class_is = s.class_is;
+  lock_is = s.lock_is;
+  length_is = s.length_is;
+  numbers = subst (AllByRecursion (λ p. number_at v p.kind (at + p.offset) ≡ number_of p.kind (values p))) (sym places) s.numbers;
+  zeros = λ i low high none. s.zeros i low (subst (λ n. i < n) size high) (subst (λ ps. is_in_value ps i ≡ false) places none);
+}
+
+-- what a shape is under more classes
+pub size-more : (cs more : List Class) (shape : Shape) → IsKnown cs shape → size_in (cs ++ more) shape ≡ size_in cs shape
+size-more cs more (Instance class) known = ap (λ (l : Laid). next_multiple 8 l.end) (layout_of-push_old cs more class known)
+size-more cs more (Array kind count) known = refl
+
+pub places-more : (cs more : List Class) (shape : Shape) → IsKnown cs shape → places_of (cs ++ more) shape ≡ places_of cs shape
+places-more cs more (Instance class) known = ap (λ (l : Laid). map (λ (p : Placed). p.at) l.fields) (layout_of-push_old cs more class known)
+places-more cs more (Array kind count) known = refl
+
+pub known-more : (cs more : List Class) (shape : Shape) → IsKnown cs shape → IsKnown (cs ++ more) shape
+known-more cs more (Instance class) known = omega (arith, known, length-append cs more)
+known-more cs more (Array kind count) known = tt
+
+pub references-more : (cs more : List Class) (shape : Shape) (k : ℕ) → IsKnown cs shape → reference_place (cs ++ more) shape k ≡ reference_place cs shape k
+references-more cs more (Instance class) k known = ap (λ (l : Laid). slice_get (references l) k) (layout_of-push_old cs more class known)
+references-more cs more (Array kind count) k known = refl
 
 -- an object has its shape and its header
 pub HasShape-stands : (cs : List Class) (v : View) (at : ℕ) (shape : Shape) (header : Header) (values : FieldAt → ℤ) → Stands cs v at shape header values → HasShape v at shape

@@ -55,6 +55,7 @@ StoresNumber-write r old new t kind at n bytes long there page view takes succee
   others_seen = OthersSeen-pages old new t (page_of at) 1 (single-pages r old new t at (page_of at) bytes refl page takes err);
   reads = reads-same r old new t at bytes page err;
   succeeds = succeeds;
+  takes = takes;
   only = only;
   err = err;
   sound = sound;
@@ -115,12 +116,16 @@ all-in P [] p there all = absurd there
 all-in P (q ∷ ps) p (inl same) all = subst P same all.0
 all-in P (q ∷ ps) p (inr there) all = all-in P ps p there all.1
 
+-- the number at a place is that of the object's value there
+pub number-there : (cs : List Class) (v : View) (at : ℕ) (shape : Shape) (header : Header) (values : FieldAt → ℤ) (kind : Kind) (offset : ℕ) (place : FieldAt)
+    → Stands cs v at shape header values → IsPlace cs shape kind offset place → number_at v kind (at + offset) ≡ number_of kind (values place)
+number-there cs v at shape header values kind offset place s is =
+    let there = all-in (λ p. number_at v p.kind (at + p.offset) ≡ number_of p.kind (values p)) (places_of cs shape) place is.is_in s.numbers in
+    subst (λ (k : Kind). number_at v k (at + offset) ≡ number_of k (values place)) is.kind_is
+    (subst (λ o. number_at v place.kind (at + o) ≡ number_of place.kind (values place)) is.offset_is there)
+
 -- what is read at a place is the object's value there
 pub loaded : (cs : List Class) (v : View) (at : ℕ) (shape : Shape) (header : Header) (values : FieldAt → ℤ) (kind : Kind) (offset : ℕ) (place : FieldAt)
     → Stands cs v at shape header values → IsPlace cs shape kind offset place → is_value kind (values place) ≡ true → value_of kind (number_at v kind (at + offset)) ≡ values place
 loaded cs v at shape header values kind offset place s is value =
-    let there = all-in (λ p. number_at v p.kind (at + p.offset) ≡ number_of p.kind (values p)) (places_of cs shape) place is.is_in s.numbers in
-    ap (value_of kind)
-    (subst (λ (k : Kind). number_at v k (at + offset) ≡ number_of k (values place)) is.kind_is
-    (subst (λ o. number_at v place.kind (at + o) ≡ number_of place.kind (values place)) is.offset_is there))
-    ∙ value-again kind (values place) value
+    ap (value_of kind) (number-there cs v at shape header values kind offset place s is) ∙ value-again kind (values place) value

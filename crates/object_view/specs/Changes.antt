@@ -4,7 +4,7 @@ use Rattle.class_layout.specs.declared.kind.Kind.{Kind}
 use Rattle.class_layout.specs.Kinds.{kind_bytes}
 use Rattle.cow_pages.specs.Address.{page_of}
 use Rattle.cow_pages.specs.Memory.{Memory, page_at, frame_at, is_live, is_written, HasOneSharer, IsShared, IsFree, IsSound}
-use Rattle.cow_pages.specs.Change.{KeepsRoom, reads_after}
+use Rattle.cow_pages.specs.Change.{KeepsRoom, TakesOnCopy, reads_after}
 use Rattle.cow_pages.specs.View.{View, view_of, OthersSeen}
 use Rattle.heap_graph.specs.declared.names.Shape.{Shape}
 use Rattle.heap_graph.specs.declared.names.Shape.TheVariants.{Instance, Array}
@@ -61,6 +61,7 @@ pub record StoresNumber {T E : Type 0} (result : Result T E) (old new : Memory) 
   pub written : OnOk result (AreWritten new t (page_of at) 1)
   pub others_seen : OthersSeen old new t
   pub reads : new.reads ≡ old.reads
+  pub takes : OnOk result (TakesOnCopy old new t (page_of at))
   pub succeeds : HasOneSharer old t (page_of at) ⊎ (old.spare ≢ 0) → IsOk result
   pub only : OnErr result (IsShared old t (page_of at) × (old.spare ≡ 0))
   pub err : OnErr result (new ≡ old)

@@ -1,5 +1,5 @@
 -- What stands in memory for an object.
-use Rattle.std.specs.Prelude.{◌≡◌, ⊤, ℕ, zero, suc, ◌+◌, ◌*◌, ◌%◌, ◌^◌, ◌<◌, ◌≤◌, Bool, true, false, ◌&&◌, List, [], ◌∷◌, map, length, Option, Some, None, nat_le, nat_lt, slice_get, ℤ}
+use Rattle.std.specs.Prelude.{◌≡◌, ⊤, ℕ, zero, suc, ◌+◌, ◌*◌, ◌%◌, ◌^◌, ◌<◌, ◌≤◌, Bool, true, false, if◌then◌else◌, ◌&&◌, List, [], ◌∷◌, map, length, Option, Some, None, nat_le, nat_lt, slice_get, ℤ, pos}
 use Rattle.std.specs.List.{list_any, AllByRecursion}
 use Rattle.class_layout.specs.declared.kind.Kind.{Kind}
 use Rattle.class_layout.specs.declared.kind.FieldAt.{FieldAt}
@@ -98,6 +98,17 @@ abbrev pub reference_place : List Class → Shape → ℕ → Option FieldAt
 reference_place cs (Instance class) k = slice_get (references (layout_of cs class)) k
 reference_place cs (Array kind count) k = place_if (is_ref kind && nat_lt k count) (element kind k)
 
+-- how many references a shape has
+abbrev pub reference_count : List Class → Shape → ℕ
+reference_count cs (Instance class) = length (references (layout_of cs class))
+reference_count cs (Array kind count) = if is_ref kind then count else 0
+
 -- the slot of a place in an object, and what it holds
 abbrev pub slot_at : View → ℕ → FieldAt → Slot
 slot_at v at place = record { at = record { 0 = at + place.offset }; target = record { 0 = u32_at v (at + place.offset) }; weak = place.weak }
+
+-- the slot is that of an object's place: it stands there, it holds the object's value there, and it is weak as the place is
+pub record IsSlotOf (at : ℕ) (place : FieldAt) (values : FieldAt → ℤ) (slot : Slot) : Type 0 where
+  pub at_is : slot.at.0 ≡ at + place.offset
+  pub target_is : pos slot.target.0 ≡ values place
+  pub weak_is : slot.weak ≡ place.weak

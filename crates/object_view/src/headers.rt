@@ -4,7 +4,7 @@ ghost use Rattle.class_layout.specs.declared.kind.FieldAt.{FieldAt};
 ghost use Rattle.class_layout.specs.ClassList.{Class};
 ghost use Rattle.cow_pages.specs.Address.{page_of};
 ghost use Rattle.cow_pages.specs.Memory.{is_mapped, HasOneSharer, IsShared, IsSound};
-ghost use Rattle.cow_pages.specs.Change.{reads_after};
+ghost use Rattle.cow_pages.specs.Change.{reads_after, TakesOnCopy};
 ghost use Rattle.cow_pages.specs.View.{view_of, OthersSeen};
 ghost use Rattle.object_view.specs.Words.{lock_word};
 ghost use Rattle.object_view.specs.Objects.{HasHeader, HasShape, Stands};
@@ -58,6 +58,7 @@ pub fn set_forward(frames: &mut Frames, t: TableNo, at: Addr, to: Addr) -> Resul
     ensures written { OnOk result (AreWritten frames.new t.0 (page_of at.0) 1) }
     ensures others_seen { OthersSeen frames.old frames.new t.0 }
     ensures reads { frames.new.reads ≡ frames.old.reads }
+    ensures takes { OnOk result (TakesOnCopy frames.old frames.new t.0 (page_of at.0)) }
     ensures succeeds { HasOneSharer frames.old t.0 (page_of at.0) ⊎ (frames.old.spare ≢ 0) → IsOk result }
     ensures only { OnErr result (IsShared frames.old t.0 (page_of at.0) × (frames.old.spare ≡ 0)) }
     ensures err { OnErr result (frames.new ≡ frames.old) }

@@ -1,5 +1,5 @@
 //! Laws above the definitions: what they say, in other words.
-ghost use Rattle.std.specs.Prelude.{◌≡◌, ◌⊎◌, ℕ, ◌+◌, ◌≤◌, ◌%◌, ◌^◌, ◌<◌, Some, IsTrue, ℤ, List};
+ghost use Rattle.std.specs.Prelude.{◌≡◌, ◌≢◌, ◌⊎◌, ℕ, ◌+◌, ◌≤◌, ◌%◌, ◌^◌, ◌<◌, ◌++◌, Some, None, IsTrue, ℤ, List, length};
 ghost use Rattle.class_layout.specs.declared.kind.FieldAt.{FieldAt};
 ghost use Rattle.class_layout.specs.declared.kind.Kind.{Kind};
 ghost use Rattle.class_layout.specs.ClassList.{Class, layout_of};
@@ -8,15 +8,15 @@ ghost use Rattle.class_layout.specs.Layout.{field_named};
 ghost use Rattle.class_layout.specs.Placing.{IsIn};
 ghost use Rattle.cow_pages.specs.declared.address.Addr.{Addr};
 ghost use Rattle.cow_pages.specs.Address.{page_of};
-ghost use Rattle.cow_pages.specs.Memory.{is_mapped, IsSound, Memory};
-ghost use Rattle.cow_pages.specs.View.{view_of, View};
+ghost use Rattle.cow_pages.specs.Memory.{frame_at, is_mapped, is_written, HasOneSharer, IsSound, Memory};
+ghost use Rattle.cow_pages.specs.View.{view_of, SameView, View};
 ghost use Rattle.heap_graph.specs.declared.names.Shape.{Shape};
 ghost use Rattle.heap_graph.specs.Sizes.{size_in};
 ghost use Rattle.object_view.specs.declared.names.Header.{Header};
 ghost use Rattle.object_view.specs.declared.names.Header.TheVariants.{Forward};
-ghost use Rattle.object_view.specs.Changes.{ChangesWithin, HasBytes, PutsNumber};
-ghost use Rattle.object_view.specs.Objects.{element, places_of, reference_place, HasHeader, HasShape, IsPlace, IsSpace, Stands};
-ghost use Rattle.object_view.specs.Values.{is_value, number_of, value_of, with_value, AreBytes};
+ghost use Rattle.object_view.specs.Changes.{ChangesPages, ChangesWithin, HasBytes, PutsNumber};
+ghost use Rattle.object_view.specs.Objects.{element, places_of, reference_count, reference_place, HasHeader, HasShape, IsKnown, IsPlace, IsSpace, Stands};
+ghost use Rattle.object_view.specs.Values.{is_value, number_at, number_of, value_of, with_value, AreBytes};
 ghost use Rattle.object_view.specs.Words.{head_end, lock_word};
 
 /// An object has its shape and its header, and no other.
@@ -44,6 +44,41 @@ pub fn places_lie_in_objects()
 /// The references of a shape stand by rising offset.
 pub fn references_rise()
     ensures { (cs : List Class) (shape : Shape) (j k : ℕ) (a b : FieldAt) → j < k → reference_place cs shape j ≡ Some a → reference_place cs shape k ≡ Some b → a.offset + 4 ≤ b.offset }
+{}
+
+/// A shape has so many references: each place of a reference is found by an index below that, and no index from there on finds one.
+pub fn all_references()
+    ensures found { (cs : List Class) (shape : Shape) (place : FieldAt) → IsIn place (places_of cs shape) → place.kind ≡ Kind.Ref
+        → (k : ℕ) × (k < reference_count cs shape) × (reference_place cs shape k ≡ Some place) }
+    ensures each { (cs : List Class) (shape : Shape) (k : ℕ) → k < reference_count cs shape → (place : FieldAt) × (reference_place cs shape k ≡ Some place) }
+    ensures none_after { (cs : List Class) (shape : Shape) (k : ℕ) → reference_count cs shape ≤ k → reference_place cs shape k ≡ None }
+{}
+
+/// What stands at a place of an object is its value there.
+pub fn values_stand()
+    ensures number { (cs : List Class) (v : View) (at : ℕ) (shape : Shape) (header : Header) (values : FieldAt → ℤ) (kind : Kind) (offset : ℕ) (place : FieldAt)
+        → Stands cs v at shape header values → IsPlace cs shape kind offset place → number_at v kind (at + offset) ≡ number_of kind (values place) }
+    ensures value { (cs : List Class) (v : View) (at : ℕ) (shape : Shape) (header : Header) (values : FieldAt → ℤ) (kind : Kind) (offset : ℕ) (place : FieldAt)
+        → Stands cs v at shape header values → IsPlace cs shape kind offset place → IsTrue (is_value kind (values place))
+        → value_of kind (number_at v kind (at + offset)) ≡ values place }
+{}
+
+/// An object has the values of its places alone: it stands also with others that are the same there.
+pub fn same_values_stand()
+    ensures { (cs : List Class) (v : View) (at : ℕ) (shape : Shape) (header : Header) (values others : FieldAt → ℤ) → Stands cs v at shape header values
+        → ((place : FieldAt) → IsIn place (places_of cs shape) → others place ≡ values place) → Stands cs v at shape header others }
+{}
+
+/// Classes that come later change nothing of an object whose class is there.
+pub fn more_classes_stand()
+    ensures known { (cs more : List Class) (shape : Shape) → IsKnown cs shape → IsKnown (cs ++ more) shape }
+    ensures size { (cs more : List Class) (shape : Shape) → IsKnown cs shape → size_in (cs ++ more) shape ≡ size_in cs shape }
+    ensures places { (cs more : List Class) (shape : Shape) → IsKnown cs shape → places_of (cs ++ more) shape ≡ places_of cs shape }
+    ensures references { (cs more : List Class) (shape : Shape) (k : ℕ) → IsKnown cs shape → reference_place (cs ++ more) shape k ≡ reference_place cs shape k }
+    ensures object { (cs more : List Class) (v : View) (at : ℕ) (shape : Shape) (header : Header) (values : FieldAt → ℤ) → IsKnown cs shape
+        → Stands cs v at shape header values → Stands (cs ++ more) v at shape header values }
+    ensures before { (cs more : List Class) (v : View) (at : ℕ) (shape : Shape) (header : Header) (values : FieldAt → ℤ) → IsKnown cs shape
+        → Stands (cs ++ more) v at shape header values → Stands cs v at shape header values }
 {}
 
 /// An object with one value stored has that value there, and every other one as before.
@@ -74,6 +109,13 @@ pub fn others_stand()
         → Stands cs new at shape header values }
 {}
 
+/// An object stands as it stood where a table has the same bytes and the same mapped addresses, as after a read.
+pub fn seen_objects_stand()
+    ensures object { (cs : List Class) (old new : View) (at : ℕ) (shape : Shape) (header : Header) (values : FieldAt → ℤ)
+        → Stands cs old at shape header values → SameView old new → Stands cs new at shape header values }
+    ensures reads { (m : Memory) (t n : ℕ) → SameView (view_of m t) (view_of (record m { reads = n }) t) }
+{}
+
 /// What stands for an object is each of its bytes: where the same object stands twice, the bytes are the same.
 pub fn objects_are_their_bytes()
     ensures bytes { (cs : List Class) (v w : View) (from to : ℕ) (shape : Shape) (header : Header) (values : FieldAt → ℤ) → AreBytes v → AreBytes w → Stands cs v from shape header values
@@ -84,4 +126,12 @@ pub fn objects_are_their_bytes()
 /// What is mapped lies below 0xa0000000, where the last window ends.
 pub fn mapped_is_below()
     ensures { (m : Memory) (t at : ℕ) → IsSound m → IsTrue (is_mapped m t (page_of at)) → at < 0xa0000000 }
+{}
+
+/// Where some pages changed, each other page keeps its frame and its flag, and a page that had its frame alone keeps it alone.
+pub fn alone_stays()
+    ensures others { (old new : Memory) (t first n u q : ℕ) → ChangesPages old new t first n → (u ≢ t) ⊎ ((q < first) ⊎ (first + n ≤ q))
+        → (frame_at new u q ≡ frame_at old u q) × (is_written new u q ≡ is_written old u q) }
+    ensures alone { (old new : Memory) (t first n u q : ℕ) → ChangesPages old new t first n → IsTrue (is_mapped old u q) → IsTrue (is_mapped new u q)
+        → HasOneSharer old u q → (frame_at new u q ≡ frame_at old u q) × HasOneSharer new u q }
 {}

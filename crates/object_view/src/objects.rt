@@ -1,5 +1,5 @@
 //! Whole objects, and their references.
-ghost use Rattle.std.specs.Prelude.{◌≡◌, ◌⊎◌, ℕ, ◌+◌, ◌*◌, ◌/◌, ◌%◌, ◌^◌, ◌<◌, ◌≤◌, [], ◌++◌, Option, None, Some, option_map, IsTrue, IsOk, IfOk, OnOk, OnErr, ℤ, List};
+ghost use Rattle.std.specs.Prelude.{◌≡◌, ◌⊎◌, ℕ, ◌+◌, ◌*◌, ◌/◌, ◌%◌, ◌^◌, ◌<◌, ◌≤◌, [], ◌++◌, Option, None, Some, option_map, IsTrue, IsOk, IfOk, IsSomeAnd, OnOk, OnErr, ℤ, List};
 ghost use Rattle.class_layout.specs.declared.kind.FieldAt.{FieldAt};
 ghost use Rattle.class_layout.specs.ClassList.{Class};
 ghost use Rattle.cow_pages.specs.Address.{page_of};
@@ -8,8 +8,8 @@ ghost use Rattle.cow_pages.specs.View.{byte_at, view_of, OthersSeen, WritesBytes
 ghost use Rattle.std.specs.Int.{w64, to_le_bytes};
 ghost use Rattle.heap_graph.specs.Sizes.{size_in};
 ghost use Rattle.object_view.specs.Words.{class_word, head_end, lock_word};
-ghost use Rattle.object_view.specs.Values.{no_values};
-ghost use Rattle.object_view.specs.Objects.{reference_place, slot_at, HasShape, HasWords, IsKnown, IsObject, IsSpace, Stands};
+ghost use Rattle.object_view.specs.Values.{is_value, no_values};
+ghost use Rattle.object_view.specs.Objects.{reference_place, slot_at, HasShape, HasWords, IsKnown, IsObject, IsSlotOf, IsSpace, Stands};
 ghost use Rattle.object_view.specs.Changes.{pages_in, reads_after_all, shape_reads, slot_reads, steps_from, AreAlone, AreWritten, ChangesPages, ChangesWithin, HasBytes, WritesSpan, WritesWords};
 
 use crate::headers::read_shape;
@@ -22,7 +22,7 @@ use std::alloc::AllocError;
 
 /// Puts an object there: its words, and zeros and nulls up to its rounded size.
 ///
-/// After `AllocError` some of its bytes may have been written.
+/// After `AllocError` its first words may have been written, in pages that now have their flags and frames of their own. Nothing else has changed.
 pub fn write_new(
     frames: &mut Frames,
     classes: &Classes,
@@ -39,6 +39,7 @@ pub fn write_new(
     ensures bytes { ChangesWithin (view_of frames.old t.0) (view_of frames.new t.0) at.0 (at.0 + size_in classes.now shape) }
     ensures pages { ChangesPages frames.old frames.new t.0 (page_of at.0) (pages_in at.0 (at.0 + size_in classes.now shape)) }
     ensures written { OnOk result (AreWritten frames.new t.0 (page_of at.0) (pages_in at.0 (at.0 + size_in classes.now shape))) }
+    ensures partly { OnErr result ((n : ℕ) × (8 * n ≤ size_in classes.now shape) × WritesWords frames.old frames.new t.0 at.0 n) }
     ensures others_seen { OthersSeen frames.old frames.new t.0 }
     ensures reads { frames.new.reads ≡ frames.old.reads }
     ensures succeeds { AreAlone frames.old t.0 (page_of at.0) (pages_in at.0 (at.0 + size_in classes.now shape)) → IsOk result }
@@ -51,7 +52,7 @@ pub fn write_new(
 
 /// Copies the bytes of an object, 8 at a time.
 ///
-/// After `AllocError` the first of them may have been written.
+/// After `AllocError` the first of them may have been written, as those of `write_new`.
 pub fn copy_object(
     frames: &mut Frames,
     t: TableNo,
@@ -71,6 +72,7 @@ pub fn copy_object(
     ensures bytes { ChangesWithin (view_of frames.old t.0) (view_of frames.new t.0) to.0 (to.0 + size) }
     ensures pages { ChangesPages frames.old frames.new t.0 (page_of to.0) (pages_in to.0 (to.0 + size)) }
     ensures written { OnOk result (AreWritten frames.new t.0 (page_of to.0) (pages_in to.0 (to.0 + size))) }
+    ensures partly { OnErr result ((n : ℕ) × (8 * n ≤ size) × WritesWords frames.old frames.new t.0 to.0 n) }
     ensures others_seen { OthersSeen frames.old frames.new t.0 }
     ensures reads { OnOk result (frames.new.reads ≡ reads_after_all frames.old.reads (steps_from from.0 (size / 8))) }
     ensures fewer_reads { OnErr result ((n : ℕ) × (n ≤ size / 8) × (frames.new.reads ≡ reads_after_all frames.old.reads (steps_from from.0 n))) }
@@ -94,6 +96,8 @@ pub fn ref_slot(
 ) -> Option<Slot>
     requires { (shape : Shape) × IsObject classes.now (view_of frames.old t.0) at.0 shape }
     ensures slot { (shape : Shape) → HasShape (view_of frames.old t.0) at.0 shape → result ≡ option_map (slot_at (view_of frames.old t.0) at.0) (reference_place classes.now shape k) }
+    ensures object { (shape : Shape) (header : Header) (values : FieldAt → ℤ) (place : FieldAt) → Stands classes.now (view_of frames.old t.0) at.0 shape header values
+        → reference_place classes.now shape k ≡ Some place → IsTrue (is_value Kind.Ref (values place)) → IsSomeAnd result (IsSlotOf at.0 place values) }
     ensures reads { (shape : Shape) → HasShape (view_of frames.old t.0) at.0 shape → frames.new ≡ record frames.old { reads = reads_after_all frames.old.reads (shape_reads at.0 shape ++ slot_reads result) } }
     ensures sound { IsSound frames.new }
 {
@@ -197,7 +201,7 @@ fn write_zeros(
     ensures zeros { OnOk result ((b : ℕ) → at.0 + 8 * first ≤ b → b < at.0 + 8 * words → byte_at frames.new t.0 b ≡ 0) }
     ensures bytes { ChangesWithin (view_of frames.old t.0) (view_of frames.new t.0) (at.0 + 8 * first) (at.0 + 8 * words) }
     ensures span { OnOk result ((m : Memory) → WritesSpan m frames.old t.0 at.0 (at.0 + 8 * first) → WritesSpan m frames.new t.0 at.0 (at.0 + 8 * words)) }
-    ensures pages { OnErr result ((m : Memory) → WritesSpan m frames.old t.0 at.0 (at.0 + 8 * first) → ChangesPages m frames.new t.0 (page_of at.0) (pages_in at.0 (at.0 + 8 * words))) }
+    ensures some { OnErr result ((m : Memory) → WritesWords m frames.old t.0 at.0 first → (n : ℕ) × (n ≤ words) × WritesWords m frames.new t.0 at.0 n) }
     ensures reads { frames.new.reads ≡ frames.old.reads }
     ensures only { OnErr result ((m : Memory) → WritesSpan m frames.old t.0 at.0 (at.0 + 8 * first) → AreAlone m t.0 (page_of at.0) (pages_in at.0 (at.0 + 8 * words)) → ⊥) }
     ensures sound { IsSound frames.old → IsSound frames.new }

@@ -5,7 +5,7 @@ ghost use Rattle.class_layout.specs.ClassList.{Class};
 ghost use Rattle.class_layout.specs.Kinds.{kind_bytes};
 ghost use Rattle.cow_pages.specs.Address.{page_of};
 ghost use Rattle.cow_pages.specs.Memory.{is_mapped, HasOneSharer, IsShared, IsSound};
-ghost use Rattle.cow_pages.specs.Change.{reads_after};
+ghost use Rattle.cow_pages.specs.Change.{reads_after, TakesOnCopy};
 ghost use Rattle.cow_pages.specs.View.{view_of, OthersSeen};
 ghost use Rattle.object_view.specs.Objects.{IsPlace, Stands};
 ghost use Rattle.object_view.specs.Values.{is_value, number_at, number_of, value_of, with_value};
@@ -52,6 +52,7 @@ pub fn store(
     ensures written { OnOk result (AreWritten frames.new t.0 (page_of (at.0 + offset)) 1) }
     ensures others_seen { OthersSeen frames.old frames.new t.0 }
     ensures reads { frames.new.reads ≡ frames.old.reads }
+    ensures takes { OnOk result (TakesOnCopy frames.old frames.new t.0 (page_of (at.0 + offset))) }
     ensures succeeds { HasOneSharer frames.old t.0 (page_of (at.0 + offset)) ⊎ (frames.old.spare ≢ 0) → IsOk result }
     ensures only { OnErr result (IsShared frames.old t.0 (page_of (at.0 + offset)) × (frames.old.spare ≡ 0)) }
     ensures err { OnErr result (frames.new ≡ frames.old) }

@@ -3,6 +3,7 @@ use Rattle.std.specs.Prelude.{OnOk}
 use Rattle.std.specs.Int.{w32, to_le_bytes}
 use Rattle.std.proofs.lemmas.Result.{on_ok_weaker}
 use Rattle.cow_pages.specs.Address.{page_of}
+use Rattle.cow_pages.specs.Change.{TakesOnCopy}
 use Rattle.cow_pages.specs.View.{view_of}
 use Rattle.class_layout.specs.declared.kind.Kind.TheVariants.{Int}
 use Rattle.object_view.specs.declared.names.Header.TheVariants.{Forward}
@@ -28,3 +29,8 @@ returns-clause-written c =
     on_ok_weaker c.write_u32.result
     (λ w. subst (λ p. AreWritten c.write_u32.new.self c.args.t.0 p 1) same
     (AreWritten-write c.args.frames.now c.write_u32.new.self c.args.t.0 (c.args.at.0 + 4) (to_le_bytes w32 c.lock_word.result) w)) c.write_u32.ensures.page
+
+pub returns-clause-takes : goal.returns-clause-takes
+returns-clause-takes c =
+    let same : page_of (c.args.at.0 + 4) ≡ page_of c.args.at.0 = omega (arith, c.requires.aligned) in
+    on_ok_weaker c.write_u32.result (λ takes. subst (λ p. TakesOnCopy c.args.frames.now c.write_u32.new.self c.args.t.0 p) same takes) c.write_u32.ensures.takes

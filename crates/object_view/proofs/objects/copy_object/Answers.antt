@@ -35,6 +35,16 @@ returns-in_err-write_word-clause-pages c =
     (words-mid old c.loop-i.frames c.read_u64-word.new.self c.args.t.0 c.args.from.0 c.args.to.0 c.loop-i.i c.loop-i.invariant.so_far c.read_u64-word.ensures.counts) in
     words-pages old c.write_word.new.frames c.args.t.0 c.args.to.0 c.loop-i.i c.args.size (omega arith) words
 
+pub returns-in_err-write_word-clause-partly : goal.returns-in_err-write_word-clause-partly
+returns-in_err-write_word-clause-partly c =
+    let old = c.args.frames.now in
+    on_err c.from_residual.result (
+      c.loop-i.i,
+      omega arith,
+      subst (λ (n : Memory). WritesWords old n c.args.t.0 c.args.to.0 c.loop-i.i) (sym c.in_err-write_word.ensures.err)
+          (words-mid old c.loop-i.frames c.read_u64-word.new.self c.args.t.0 c.args.from.0 c.args.to.0 c.loop-i.i c.loop-i.invariant.so_far c.read_u64-word.ensures.counts),
+    )
+
 pub returns-in_err-write_word-clause-others_seen : goal.returns-in_err-write_word-clause-others_seen
 returns-in_err-write_word-clause-others_seen c = OthersSeen-pages c.args.frames.now c.write_word.new.frames c.args.t.0 (page_of c.args.to.0) _ (returns-in_err-write_word-clause-pages c)
 

@@ -5,7 +5,8 @@ use Rattle.cow_pages.specs.Memory.{Memory, is_mapped}
 use Rattle.cow_pages.specs.View.{u32_at, view_of}
 use Rattle.heap_graph.specs.declared.names.Shape.{Shape}
 use Rattle.object_view.specs.Objects.{reference_place, slot_at, IsObject}
-use Rattle.object_view.proofs.Lookups.{found-slot, slot-is, u32-later}
+use Rattle.object_view.proofs.Lookups.{found-slot, slot-is, slot-object, u32-later}
+use Rattle.object_view.proofs.Standing.{HasShape-stands}
 use Rattle.object_view.proofs.objects.ref_slot.Goals as goal
 
 pub overflow_add-at : goal.overflow_add-at
@@ -39,3 +40,9 @@ returns-clause-slot c shape has =
     slot-is v c.args.at.0 c.in_ok-offset.offset c.read_u32.result c.in_ok-offset.weak it.place it.offset_is it.weak_is target
     ∙ ap (option_map (slot_at v c.args.at.0)) (sym it.is)
     ∙ ap (λ (s : Shape). option_map (slot_at v c.args.at.0) (reference_place c.args.classes.now s c.args.k)) (c.read_shape-shape.ensures.only shape has)
+
+pub returns-clause-object : goal.returns-clause-object
+returns-clause-object c shape header values place s is value =
+    let v = view_of c.args.frames.now c.args.t.0 in
+    slot-object c.args.classes.now v c.args.at.0 shape header values c.args.k place _ s is value
+    (returns-clause-slot c shape (HasShape-stands c.args.classes.now v c.args.at.0 shape header values s))

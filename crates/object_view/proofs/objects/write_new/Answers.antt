@@ -5,7 +5,7 @@ use Rattle.cow_pages.specs.Memory.{Memory}
 use Rattle.cow_pages.specs.View.{view_of}
 use Rattle.heap_graph.specs.Sizes.{size_in}
 use Rattle.object_view.specs.declared.names.Header.TheVariants.{Number}
-use Rattle.object_view.specs.Changes.{pages_in, AreAlone, ChangesPages, WritesSpan, WritesWords}
+use Rattle.object_view.specs.Changes.{pages_in, AreAlone, WritesSpan, WritesWords}
 use Rattle.object_view.proofs.Laid.{size-bounds}
 use Rattle.object_view.proofs.Outcomes.{either, is_ok_unless}
 use Rattle.object_view.proofs.Spans.{OthersSeen-pages}
@@ -60,7 +60,21 @@ returns-clause-pages c =
     let whole : 8 * (c.size_of.result / 8) ≡ size_in c.args.classes.now c.args.shape = omega (arith, bounds.3, c.size_of.ensures) in
     either c.write_zeros.result
     (on_ok_weaker c.write_zeros.result (λ span. (pages old c.write_head.new.frames new c.args.t.0 c.args.at.0 c.in_ok-first.first total size whole all.2 span).pages) c.write_zeros.ensures.span)
-    (on_err_weaker c.write_zeros.result (λ partly. subst (λ n. ChangesPages old new c.args.t.0 (page_of c.args.at.0) (pages_in c.args.at.0 (c.args.at.0 + n))) whole (partly old all.2.span)) c.write_zeros.ensures.pages)
+    (on_err_weaker c.write_zeros.result
+    (λ some. let it : (n : ℕ) × (n ≤ c.size_of.result / 8) × WritesWords old new c.args.t.0 c.args.at.0 n = some old all.2 in words-pages old new c.args.t.0 c.args.at.0 it.0 size (omega (arith, it.1, whole)) it.2)
+    c.write_zeros.ensures.some)
+
+pub returns-clause-partly : goal.returns-clause-partly
+returns-clause-partly c =
+    let old = c.args.frames.now in
+    let new = c.write_zeros.new.frames in
+    let size : ℕ = size_in c.args.classes.now c.args.shape in
+    let all = c.in_ok-first.ensures.all in
+    let bounds = size-bounds c.args.classes.now c.args.shape in
+    let whole : 8 * (c.size_of.result / 8) ≡ size_in c.args.classes.now c.args.shape = omega (arith, bounds.3, c.size_of.ensures) in
+    on_err_weaker c.write_zeros.result
+    (λ some. let it : (n : ℕ) × (n ≤ c.size_of.result / 8) × WritesWords old new c.args.t.0 c.args.at.0 n = some old all.2 in (it.0, omega (arith, it.1, whole), it.2))
+    c.write_zeros.ensures.some
 
 pub returns-clause-written : goal.returns-clause-written
 returns-clause-written c =

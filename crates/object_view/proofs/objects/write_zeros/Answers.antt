@@ -1,20 +1,32 @@
-use Rattle.std.proofs.Common.{◌≡◌, ℕ, ◌+◌, ◌*◌, ◌≤◌, sym, subst, arith}
+use Rattle.std.proofs.Common.{◌≡◌, ◌+◌, ◌*◌, ◌≤◌, sym, subst, arith}
 use Rattle.cow_pages.specs.Address.{page_of}
 use Rattle.cow_pages.specs.Memory.{Memory}
-use Rattle.object_view.specs.Changes.{pages_in, ChangesPages, WritesSpan}
+use Rattle.cow_pages.specs.View.{view_of}
+use Rattle.object_view.specs.Changes.{WritesSpan, WritesWords}
 use Rattle.object_view.proofs.Outcomes.{on_err}
-use Rattle.object_view.proofs.Spans.{alone-next, not-shared, pages-more, ChangesPages-more}
+use Rattle.object_view.proofs.Heads.{changes-after}
+use Rattle.object_view.proofs.Spans.{alone-next, not-shared}
 use Rattle.object_view.proofs.objects.write_zeros.Goals as goal
 
-pub returns-in_err-write_word-clause-pages : goal.returns-in_err-write_word-clause-pages
-returns-in_err-write_word-clause-pages c =
+pub returns-in_err-write_word-clause-some : goal.returns-in_err-write_word-clause-some
+returns-in_err-write_word-clause-some c =
+    let t = c.args.t.0 in
     let at = c.args.at.0 in
-    let done : ℕ = 8 * c.loop-i.i in
-    let total : ℕ = 8 * c.args.words in
-    let more : pages_in at (at + done) ≤ pages_in at (at + total) = pages-more at done total (omega arith) in
-    on_err c.from_residual.result (λ m s.
-    subst (λ (n : Memory). ChangesPages m n c.args.t.0 (page_of at) (pages_in at (at + total))) (sym c.in_err-write_word.ensures.err)
-    (ChangesPages-more m c.loop-i.frames c.args.t.0 (page_of at) (pages_in at (at + done)) (pages_in at (at + total)) more (c.loop-i.invariant.span m s).pages))
+    let first = c.args.first in
+    let i = c.loop-i.i in
+    let old = c.args.frames.now in
+    let now = c.loop-i.frames in
+    let low : first ≤ i = omega arith in
+    on_err c.from_residual.result (λ m words. (
+      i,
+      omega arith,
+      subst (λ (n : Memory). WritesWords m n t at i) (sym c.in_err-write_word.ensures.err)
+          (record {
+            span = c.loop-i.invariant.span m words.span;
+            bytes = changes-after (view_of m t) (view_of old t) (view_of now t) at (at + 8 * first) (at + 8 * first) (at + 8 * i) at (at + 8 * i) (omega arith) (omega arith) (omega arith) (omega arith)
+                words.bytes c.loop-i.invariant.bytes;
+          }),
+    ))
 
 pub returns-in_err-write_word-clause-only : goal.returns-in_err-write_word-clause-only
 returns-in_err-write_word-clause-only c =
