@@ -113,6 +113,7 @@ stops_behind Write budget before line n refused f f' g g1 g2 machine machine' ha
     let at : ℕ → Type 0 = λ k. PutInPart (with_answer k (step_line (world_of budget before) k line).reply []) (step_line (world_of budget before) k line).world g1 g2 machine' in
     let part : at (1 + length before) = subst at is stopped.0 in (
       record {
+        replied = part.replied;
         told = part.told;
         report = Gained-more g (report_of (answers_of budget before)) g1 (take part.told (line_report budget before line)) g2 had.ran.report part.report;
         stands = subst (StandsFor machine') (sym (world-more budget before line)) part.stands;

@@ -31,13 +31,20 @@ stopped_within stop budget text taken k f f' g g1 machine few h =
       stopped = h.stopped;
     }
 
-pub stopped_taken : (stop : Stop) (budget : ℕ) (text taken : List ℕ) (k f f' : ℕ) (g g1 : Option (List ℕ)) (machine : World) → length taken ≤ piece_limit
+-- that line's line feed is within the limit, where the first bytes are
+within_limit : (text first upto behind : List ℕ) (room : ℕ) → text ++ first ≡ upto ++ behind → length text + room ≡ input_limit → length first ≤ room → length upto ≤ input_limit
+within_limit text first upto behind room is full fits = omega (arith, ap length is, length-append text first, length-append upto behind, full, fits)
+
+pub stopped_taken : (stop : Stop) (budget : ℕ) (text taken : List ℕ) (room k f f' : ℕ) (g g1 : Option (List ℕ)) (machine : World) → length taken ≤ piece_limit → length text + room ≡ input_limit → length (take k taken) ≤ room
     → StoppedIn budget (text ++ take k taken) (length (take k taken)) stop f f' g g1 machine
     → StoppedTaken stop budget (text ++ taken) f f' g g1 machine
-stopped_taken Read budget text taken k f f' g g1 machine few h = absurd h.stopped
-stopped_taken Write budget text taken k f f' g g1 machine few h = stopped_within Write budget text taken k f f' g g1 machine few h
-stopped_taken Memory budget text taken k f f' g g1 machine few h = stopped_within Memory budget text taken k f f' g g1 machine few h
-stopped_taken TooLong budget text taken k f f' g g1 machine few h = absurd h.stopped
+unfolding stopped_within
+stopped_taken Read budget text taken room k f f' g g1 machine few full fits h = absurd h.stopped
+stopped_taken Write budget text taken room k f f' g g1 machine few full fits h =
+    (stopped_within Write budget text taken k f f' g g1 machine few h, within_limit text (take k taken) h.upto h.behind room h.text_is full fits)
+stopped_taken Memory budget text taken room k f f' g g1 machine few full fits h =
+    (stopped_within Memory budget text taken k f f' g g1 machine few h, within_limit text (take k taken) h.upto h.behind room h.text_is full fits)
+stopped_taken TooLong budget text taken room k f f' g g1 machine few full fits h = absurd h.stopped
 
 -- there was room for the first bytes that were taken last, and not for all
 pub too_many_taken : (budget : ℕ) (text taken : List ℕ) (room : ℕ) (feed : Feed) (refused : Bool) (g g1 : Option (List ℕ)) (machine : World)

@@ -72,13 +72,14 @@ turn_reads_no_more budget room feed refused left mid left' g g1 machine h same =
 
 -- how far a run came that stopped at a line
 came_to : (stop : Stop) (budget : ℕ) (text : List ℕ) (f f' : ℕ) (left left' g g1 : Option (List ℕ)) (machine : World) → Gave left text left'
-    → (h : StoppedIn budget text piece_limit stop f f' g g1 machine) → CameTo left left' (h.before ++ h.line ∷ [])
-came_to stop budget text f f' left left' g g1 machine gave h = record {
+    → (h : StoppedIn budget text piece_limit stop f f' g g1 machine) → length h.upto ≤ input_limit → CameTo left left' (h.before ++ h.line ∷ [])
+came_to stop budget text f f' left left' g g1 machine gave h within = record {
   upto = h.upto;
   behind = h.behind;
   gave = subst (λ (xs : List ℕ). Gave left xs left') h.text_is gave;
   got = h.got;
   ended = inl h.ended;
+  within = within;
   few = h.few;
 }
 
@@ -86,7 +87,7 @@ came_to stop budget text f f' left left' g g1 machine gave h = record {
 wrote_in_part : (budget : ℕ) (before : List (List ℕ)) (line : List ℕ) (left left' g g1 : Option (List ℕ)) (machine : World)
     → CameTo left left' (before ++ line ∷ []) → PutBehind budget before line g g1 machine → StoppedWriting budget left left' g g1 machine
 wrote_in_part budget before line left left' g g1 machine came put =
-    record { before = before; line = line; came = came; told = put.told; report = put.report; stands = put.stands }
+    record { before = before; line = line; came = came; replied = put.replied; told = put.told; report = put.report; stands = put.stands }
 
 -- what was taken wasn't all run
 pub turn_stops : (stop : Stop) (budget room : ℕ) (feed : Feed) (refused : Bool) (bytes : List ℕ) (f f' sf sf' : ℕ) (left mid left' g g0 g1 : Option (List ℕ)) (machine machine' : World)
@@ -94,11 +95,11 @@ pub turn_stops : (stop : Stop) (budget room : ℕ) (feed : Feed) (refused : Bool
     → EndedRun budget (stop_status stop) left left' f f' g g1 sf sf' machine'
 turn_stops Read budget room feed refused bytes f f' sf sf' left mid left' g g0 g1 machine machine' h gave stopped = absurd stopped
 turn_stops Write budget room feed refused bytes f f' sf sf' left mid left' g g0 g1 machine machine' h gave stopped =
-    let came = came_to Write budget (h.text ++ bytes) sf sf' left left' g g1 machine' (Gave-more left h.text mid bytes left' h.gave gave) stopped in
-    (wrote_in_part budget stopped.before stopped.line left left' g g1 machine' came stopped.stopped.0, stopped.stopped.1)
+    let came = came_to Write budget (h.text ++ bytes) sf sf' left left' g g1 machine' (Gave-more left h.text mid bytes left' h.gave gave) stopped.0 stopped.1 in
+    (wrote_in_part budget stopped.0.before stopped.0.line left left' g g1 machine' came stopped.0.stopped.0, stopped.0.stopped.1)
 turn_stops Memory budget room feed refused bytes f f' sf sf' left mid left' g g0 g1 machine machine' h gave stopped =
-    let came = came_to Memory budget (h.text ++ bytes) sf sf' left left' g g1 machine' (Gave-more left h.text mid bytes left' h.gave gave) stopped in
-    record { before = stopped.before; came = inr (stopped.line, came); report = stopped.stopped }
+    let came = came_to Memory budget (h.text ++ bytes) sf sf' left left' g g1 machine' (Gave-more left h.text mid bytes left' h.gave gave) stopped.0 stopped.1 in
+    record { before = stopped.0.before; came = inr (stopped.0.line, came); report = stopped.0.stopped }
 turn_stops TooLong budget room feed refused bytes f f' sf sf' left mid left' g g0 g1 machine machine' h gave stopped =
     record { taken = h.text ++ bytes; gave = Gave-more left h.text mid bytes left' h.gave gave; too_many = stopped.too_many; barely = stopped.barely; ran = stopped.ran }
 
@@ -126,14 +127,15 @@ run_ends budget room feed refused false f f' sf sf' left left' g g0 g1 machine m
     record { text = h.text; gave = h.gave; nothing_left = nothing; fits = omega (arith, h.fits); ran = ran.ran; refusals = ran.refusals; isolated = laws.alone h.text; told = laws.told h.text }
 
 -- the last line, without a line feed, wasn't run to its end
-last_came : (text : List ℕ) (before : List (List ℕ)) (line : List ℕ) (left left' : Option (List ℕ)) → Gave left text left' → NothingLeft left' → lines text ≡ before ++ line ∷ []
+last_came : (text : List ℕ) (before : List (List ℕ)) (line : List ℕ) (left left' : Option (List ℕ)) → Gave left text left' → length text ≤ input_limit → NothingLeft left' → lines text ≡ before ++ line ∷ []
     → CameTo left left' (before ++ line ∷ [])
-last_came text before line left left' gave nothing got = record {
+last_came text before line left left' gave within nothing got = record {
   upto = text;
   behind = [];
   gave = subst (λ (xs : List ℕ). Gave left xs left') (sym (append-nil text)) gave;
   got = got;
   ended = inr (refl, nothing);
+  within = within;
   few = omega arith;
 }
 
@@ -142,9 +144,9 @@ pub last_stops : (stop : Stop) (budget room : ℕ) (feed : Feed) (refused : Bool
     → StoppedLast budget h.text stop sm sf' g g1 machine' → EndedRun budget (stop_status stop) left left' f f' g g1 sf sf' machine'
 last_stops Read budget room feed refused f f' sf sm sf' left left' g g0 g1 machine machine' h nothing a b last = absurd last.stopped
 last_stops Write budget room feed refused f f' sf sm sf' left left' g g0 g1 machine machine' h nothing a b last =
-    (wrote_in_part budget last.before last.line left left' g g1 machine' (last_came h.text last.before last.line left left' h.gave nothing last.got) last.stopped.0, FaultRose-earlier sf sm sf' a b last.stopped.1)
+    (wrote_in_part budget last.before last.line left left' g g1 machine' (last_came h.text last.before last.line left left' h.gave (omega (arith, h.fits)) nothing last.got) last.stopped.0, FaultRose-earlier sf sm sf' a b last.stopped.1)
 last_stops Memory budget room feed refused f f' sf sm sf' left left' g g0 g1 machine machine' h nothing a b last =
-    record { before = last.before; came = inr (last.line, last_came h.text last.before last.line left left' h.gave nothing last.got); report = last.stopped }
+    record { before = last.before; came = inr (last.line, last_came h.text last.before last.line left left' h.gave (omega (arith, h.fits)) nothing last.got); report = last.stopped }
 last_stops TooLong budget room feed refused f f' sf sm sf' left left' g g0 g1 machine machine' h nothing a b last = absurd last.stopped
 
 -- nothing came

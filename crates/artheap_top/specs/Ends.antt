@@ -1,5 +1,5 @@
 -- How a job may end, and what it leaves.
-use Rattle.std.specs.Prelude.{◌≡◌, ◌⊎◌, ℕ, ◌+◌, ◌<◌, ◌≤◌, Bool, true, false, List, [], ◌∷◌, ◌++◌, Option, IfSome, IsSomeAnd, length, map, take}
+use Rattle.std.specs.Prelude.{◌≡◌, ◌≢◌, ◌⊎◌, ℕ, ◌+◌, ◌<◌, ◌≤◌, Bool, true, false, List, [], ◌∷◌, ◌++◌, Option, IfSome, IsSomeAnd, length, map, take}
 use Rattle.ah_outside.specs.Outside.{FaultRose, Gave, Gained, GainedPrefix}
 use Rattle.artheap_top.specs.declared.status.Status.{Status}
 use Rattle.artheap_top.specs.declared.status.Status.TheVariants as status
@@ -20,7 +20,7 @@ input_limit = 268435456
 abbrev pub piece_limit : ℕ
 piece_limit = 4096
 
--- what the source has left is no longer than an input may be, where the source tells it
+-- the source tells what it has left, and that is no longer than an input may be
 abbrev pub HasFewLeft : Option (List ℕ) → Type 0
 HasFewLeft left = IsSomeAnd left (λ text. length text ≤ input_limit)
 
@@ -46,7 +46,7 @@ pub record RanLines (budget : ℕ) (ls : List (List ℕ)) (gained gained' : Opti
   pub stands : StandsFor machine (world_of budget ls)
 
 -- the whole input was taken, and its lines were run. Where no fork was refused since its name was taken, each process
--- answered and is what its own lines alone make of it
+-- that was made answered, but for counts of frames, and is what its own lines alone make of it
 pub record RanToEnd (budget : ℕ) (refused : Bool) (left left' gained gained' : Option (List ℕ)) (machine : World) : Type 0 where
   pub text : List ℕ
   pub gave : Gave left text left'
@@ -72,21 +72,23 @@ pub record TookTooMany (budget : ℕ) (left left' gained gained' : Option (List 
   pub barely : length taken ≤ input_limit + piece_limit
   pub ran : RanLines budget (whole_lines (take input_limit taken)) gained gained' machine
 
--- how far an input was taken for these lines: up to and with the line feed of the last one, and fewer bytes behind than
--- a piece has; at the end of the input the last line may lack its line feed
+-- how far an input was taken for these lines: up to and with the line feed of the last one, which is within the limit,
+-- and fewer bytes behind than a piece has; at the end of the input the last line may lack its line feed
 pub record CameTo (left left' : Option (List ℕ)) (ls : List (List ℕ)) : Type 0 where
   pub upto : List ℕ
   pub behind : List ℕ
   pub gave : Gave left (upto ++ behind) left'
   pub got : lines upto ≡ ls
   pub ended : (whole_lines upto ≡ ls) ⊎ ((behind ≡ []) × NothingLeft left')
+  pub within : length upto ≤ input_limit
   pub few : length behind < piece_limit
 
--- a write failed: the line was run behind the others, and of its report the first bytes were put
+-- a write failed: the line has a reply, was run behind the others, and of its report the first bytes were put
 pub record StoppedWriting (budget : ℕ) (left left' gained gained' : Option (List ℕ)) (machine : World) : Type 0 where
   pub before : List (List ℕ)
   pub line : List ℕ
   pub came : CameTo left left' (before ++ line ∷ [])
+  pub replied : line_report budget before line ≢ []
   pub told : ℕ
   pub report : Gained gained (report_of (answers_of budget before) ++ take told (line_report budget before line)) gained'
   pub stands : StandsFor machine (world_of budget (before ++ line ∷ []))

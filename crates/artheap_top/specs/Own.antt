@@ -82,7 +82,8 @@ own_script t text = only_lines (numbers t.lines) 1 (lines text)
 abbrev pub heard : Told → List ℕ
 heard t = numbers (filter (λ l. not (is_frames l.command.verb)) t.lines)
 
--- its own lines alone make of a process what it is: they get the same answers, and it has the same part
+-- its own lines alone make of a process what it is: they get the same answers, but for counts of frames, and it has the
+-- same part
 pub record IsAloneIn (budget : ℕ) (text : List ℕ) (t : Told) : Type 0 where
   pub only_own : commands (own_script t text) ≡ t.lines
   pub answers : answers_to (heard t) (answers budget text) ≡ answers_to (heard t) (answers budget (own_script t text))

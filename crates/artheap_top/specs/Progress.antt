@@ -1,5 +1,5 @@
 -- How far a run of a script is.
-use Rattle.std.specs.Prelude.{◌≡◌, ◌⊎◌, ℕ, ◌+◌, ◌<◌, ◌≤◌, ◌||◌, Bool, true, false, List, [], ◌∷◌, ◌++◌, Option, Result, Ok, Err, length, take}
+use Rattle.std.specs.Prelude.{◌≡◌, ◌≢◌, ◌⊎◌, ℕ, ◌+◌, ◌<◌, ◌≤◌, ◌||◌, Bool, true, false, List, [], ◌∷◌, ◌++◌, Option, Result, Ok, Err, length, take}
 use Rattle.ah_outside.specs.Outside.{FaultRose, Gave, Gained}
 use Rattle.heap_world.specs.Run.{Answer}
 use Rattle.heap_world.specs.World.{World}
@@ -36,8 +36,9 @@ pub record RanLine (given : List Answer) (after : World) (refused : Bool) (gaine
   pub refusals : has_refusal given ≡ refused
   pub stands : StandsFor machine after
 
--- the first bytes of a line's report were put, and the machine stands for the world after the line
+-- a line has a report, whose first bytes were put, and the machine stands for the world after the line
 pub record PutInPart (given : List Answer) (after : World) (gained gained' : Option (List ℕ)) (machine : World) : Type 0 where
+  pub replied : report_of given ≢ []
   pub told : ℕ
   pub report : Gained gained (take told (report_of given)) gained'
   pub stands : StandsFor machine after
@@ -49,7 +50,7 @@ StoppedLine Write given after faults faults' gained gained' machine = PutInPart 
 StoppedLine Memory given after faults faults' gained gained' machine = gained' ≡ gained
 StoppedLine TooLong given after faults faults' gained gained' machine = ⊥
 
--- lines were run, and some reply was a refusal or none
+-- lines were run, and whether some reply was a refusal is as said
 pub record HasRunLines (budget : ℕ) (ls : List (List ℕ)) (refused : Bool) (gained gained' : Option (List ℕ)) (machine : World) : Type 0 where
   pub ran : RanLines budget ls gained gained' machine
   pub refusals : has_refusal (answers_of budget ls) ≡ refused
@@ -63,8 +64,10 @@ pub record HasRun (budget : ℕ) (text : List ℕ) (feed : Feed) (refused : Bool
   pub kept : feed.kept ≡ kept_line part
   pub has_run : HasRunLines budget done refused gained gained' machine
 
--- the report of lines was put, and the first bytes of that of the next one; the machine stands for the world after it
+-- the report of lines was put, and the first bytes of that of the next one, which has one; the machine stands for the
+-- world after it
 pub record PutBehind (budget : ℕ) (before : List (List ℕ)) (line : List ℕ) (gained gained' : Option (List ℕ)) (machine : World) : Type 0 where
+  pub replied : line_report budget before line ≢ []
   pub told : ℕ
   pub report : Gained gained (report_of (answers_of budget before) ++ take told (line_report budget before line)) gained'
   pub stands : StandsFor machine (world_of budget (before ++ line ∷ []))
@@ -107,11 +110,16 @@ pub record HasTooMany (budget : ℕ) (text : List ℕ) (gained gained' : Option 
   pub barely : length text ≤ input_limit + piece_limit
   pub ran : RanLines budget (whole_lines (take input_limit text)) gained gained' machine
 
+-- a run stopped at a line whose line feed is within the limit
+abbrev pub StoppedWithin : ℕ → List ℕ → Stop → ℕ → ℕ → Option (List ℕ) → Option (List ℕ) → World → Type 0
+StoppedWithin budget text stop faults faults' gained gained' machine =
+    (h : StoppedIn budget text piece_limit stop faults faults' gained gained' machine) × (length h.upto ≤ input_limit)
+
 -- why the bytes that were taken weren't all run
 abbrev pub StoppedTaken : Stop → ℕ → List ℕ → ℕ → ℕ → Option (List ℕ) → Option (List ℕ) → World → Type 0
 StoppedTaken Read budget text faults faults' gained gained' machine = ⊥
-StoppedTaken Write budget text faults faults' gained gained' machine = StoppedIn budget text piece_limit Write faults faults' gained gained' machine
-StoppedTaken Memory budget text faults faults' gained gained' machine = StoppedIn budget text piece_limit Memory faults faults' gained gained' machine
+StoppedTaken Write budget text faults faults' gained gained' machine = StoppedWithin budget text Write faults faults' gained gained' machine
+StoppedTaken Memory budget text faults faults' gained gained' machine = StoppedWithin budget text Memory faults faults' gained gained' machine
 StoppedTaken TooLong budget text faults faults' gained gained' machine = HasTooMany budget text gained gained' machine
 
 -- why the last line wasn't run

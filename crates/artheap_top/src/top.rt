@@ -16,12 +16,13 @@ use std::alloc::Global;
 /// Does the job that the words name. The words are those after the program's name.
 ///
 /// `run [--regions N]` runs a script of at most 268,435,456 bytes from the source, at most 4,096 bytes at a time. Each
-/// line is run as soon as its line feed was taken, and its reply is put to the sink as one piece before the next line is
+/// line is run as soon as its line feed was taken, or the input ended behind it, and its reply is put to the sink as one piece before the next line is
 /// run and before more bytes are taken. `soak START COUNT [--regions N]` runs the script that a generator makes of two
 /// numbers, START up to 2,147,483,647 and COUNT up to 1,000,000, and puts a summary. N is the budget of each process in
 /// regions, 1 to 512, and 64 if it isn't given.
 ///
-/// The machine is new, and at the end of a job stands for the world that the script made.
+/// The machine is new. At the end of a job it stands for the world after the lines that were run, but for a job that
+/// wanted memory.
 pub fn artheap<S: Source, W: Sink, F: Shelf>(
     alloc: Global,
     words: &[String],
@@ -43,8 +44,8 @@ pub fn artheap<S: Source, W: Sink, F: Shelf>(
     ensures usage { (result ≡ Status.Usage) ↔ (job_of (map string_bytes words.now) ≡ None) }
     ensures unused { result ≡ Status.Usage → (source.new ≡ source.old) × (sink.new ≡ sink.old) × (machine.new ≡ machine.old) }
 
-    // With words that have a form, an input within the limit and no fault, only want of memory stops a job. A soak has
-    // no input.
+    // With words that have a form, a source that tells an input within the limit, and no fault, only want of memory stops
+    // a job. A soak has no input.
     ensures run_complete { (regions : ℕ) → job_of (map string_bytes words.now) ≡ Some (Job.Run regions) → HasFewLeft (S.left source.old) →
         ¬ FaultRose (S.fault_count source.old) (S.fault_count source.new) → ¬ FaultRose (W.fault_count sink.old) (W.fault_count sink.new) → EndsWell result }
     ensures soak_complete { (start count regions : ℕ) → job_of (map string_bytes words.now) ≡ Some (Job.Soak start count regions) →

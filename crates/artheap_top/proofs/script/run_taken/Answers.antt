@@ -1,4 +1,4 @@
-use Rattle.std.proofs.Common.{◌≡◌, ◌<◌, ◌||◌, ◌++◌, Bool, List, length, take, min, sym, ◌∙◌, ap, subst, arith}
+use Rattle.std.proofs.Common.{◌≡◌, ◌<◌, ◌||◌, ◌++◌, Bool, List, length, length-take, take, min, sym, ◌∙◌, ap, subst, arith}
 use Rattle.std.proofs.lemmas.Result.{err_from_is_err_and}
 use Rattle.artheap_top.specs.Progress.{HasRun}
 use Rattle.artheap_top.proofs.Taken.{stopped_taken, too_many_taken}
@@ -11,8 +11,8 @@ returns-in_err-run-clause-done g c = λ budget text gained full h.
     let faults = g.W.Sink.fault_count in
     let p = err_from_is_err_and c.from_residual.result c.from_residual.ensures.1 in
     rw (p.1, p.2)
-    (stopped_taken c.in_err-run.field-0.0 budget text taken c.min-within.result (faults c.args.sink.now) (faults c.run_piece.new.sink) gained (g.W.Sink.gained c.run_piece.new.sink) c.run_piece.new.machine
-    c.requires.piece (c.in_err-run.ensures.done budget text gained run.refused h))
+    (stopped_taken c.in_err-run.field-0.0 budget text taken run.room c.min-within.result (faults c.args.sink.now) (faults c.run_piece.new.sink) gained (g.W.Sink.gained c.run_piece.new.sink) c.run_piece.new.machine
+    c.requires.piece full (omega (arith, c.min-within.ensures, length-take c.min-within.result taken)) (c.in_err-run.ensures.done budget text gained run.refused h))
 
 pub returns-then-within-taken-clause-done : goal.returns-then-within-taken-clause-done
 returns-then-within-taken-clause-done g c = λ budget text gained full h.
