@@ -6,6 +6,7 @@ mod laws;
 mod own_examples;
 mod script;
 mod soak;
+mod soak_examples;
 mod status;
 mod step;
 mod stop;

@@ -45,7 +45,12 @@ impl Summary {
     ghost use Rattle.artheap_top.specs.Summary.{summary_of, summary_text};
 
     /// The summary of lines that were counted, as the machine stands after them. To count frames takes memory.
-    pub(crate) fn new(start: u32, count: u32, tally: Tally, machine: &Machine) -> Result<Summary, AllocError>
+    pub(crate) fn new(
+        start: u32,
+        count: u32,
+        tally: Tally,
+        machine: &Machine,
+    ) -> Result<Summary, AllocError>
         ensures { (budget : ℕ) (ls : List (List ℕ)) → HasSoaked budget ls tally machine.now →
             IfOk result (λ s. s ≡ summary_of budget start count ls) }
     {

@@ -10,4 +10,4 @@ returns-clause-done c = λ budget before had.
     let w = world_of budget before in
     rw c.count.ensures.counted
     (soaks_behind budget before line (t.lines + 1) c.in_ok-reply.reply t c.args.machine.now c.step_line.new.machine had refl
-      (c.in_ok-reply.ensures.reply w had.stands) (c.in_ok-reply.ensures.world w had.stands))
+    (c.in_ok-reply.ensures.reply w had.stands) (c.in_ok-reply.ensures.world w had.stands))
