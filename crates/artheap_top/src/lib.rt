@@ -23,4 +23,6 @@ pub use top::artheap;
 #[cfg(test)]
 mod rows;
 #[cfg(test)]
+mod soak_tests;
+#[cfg(test)]
 mod tests;
