@@ -6,6 +6,7 @@ mod laws;
 mod own_examples;
 mod script;
 mod soak;
+mod soak_examples;
 mod status;
 mod step;
 mod stop;
@@ -25,5 +26,7 @@ mod faults;
 mod rows;
 #[cfg(test)]
 mod sessions;
+#[cfg(test)]
+mod soak_tests;
 #[cfg(test)]
 mod tests;

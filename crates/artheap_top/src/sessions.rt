@@ -139,20 +139,11 @@ fn soak(alloc: Global, words: &[&str]) -> Result<(Vec<u8>, Status), AllocError> 
 }
 
 #[test]
-fn soaks_put_their_summaries(rt: HostRuntime) -> Result<(), Fail> {
+fn a_long_soak_puts_the_same_twice(rt: HostRuntime) -> Result<(), Fail> {
     let alloc = rt.alloc();
-    let none: &[u8] =
-        b"soak 1 0\nlines 11\nrefused 0\ncollections 0\nprocesses 1\nobjects 9\nframes 1\n";
-    let two: &[u8] =
-        b"soak 1 2\nlines 13\nrefused 0\ncollections 0\nprocesses 1\nobjects 9\nframes 1\n";
-    for (words, text) in [(["soak", "1", "0"], none), (["soak", "1", "2"], two)] {
-        let (summary, status) = soak(alloc, &words)?;
-        assert_eq!(rt; summary.as_slice(), text);
-        assert_eq!(rt; status, Status::Ok);
-    }
-    let long = ["soak", "7", "100000", "--regions", "2"];
-    let (first, status) = soak(alloc, &long)?;
-    let (second, _) = soak(alloc, &long)?;
+    let words = ["soak", "7", "100000", "--regions", "2"];
+    let (first, status) = soak(alloc, &words)?;
+    let (second, _) = soak(alloc, &words)?;
     assert_eq!(rt; status, Status::Refused);
     assert!(rt;
         first
