@@ -1,5 +1,5 @@
 -- With no fault and an input within the limit, only want of memory stops a job.
-use Rattle.std.proofs.Common.{◌≡◌, ℕ, ◌≤◌, List, [], ◌++◌, ◌<◌, Option, None, Some, ap, length, length-append, arith}
+use Rattle.std.proofs.Common.{◌≡◌, ℕ, ◌≤◌, List, ◌++◌, ◌<◌, Option, None, Some, ap, length, length-append, arith}
 use Rattle.ah_outside.specs.Outside.{FaultRose, Gave}
 use Rattle.heap_world.specs.World.{World}
 use Rattle.artheap_top.specs.declared.status.Status.{Status}

@@ -5,7 +5,6 @@ use Rattle.ah_outside.specs.Outside.{Gained}
 use Rattle.plain_machine.specs.Worlds.{StandsFor}
 use Rattle.artheap_top.specs.declared.stop.Stop.{Stop}
 use Rattle.artheap_top.specs.declared.stop.Stop.TheVariants.{Read, Write, Memory, TooLong}
-use Rattle.artheap_top.specs.Ends.{RanLines}
 use Rattle.artheap_top.specs.Progress.{HasRunLines, PutInPart, RanLine, StoppedBehind, StoppedLine}
 use Rattle.artheap_top.proofs.Outside.{Gained-more}
 use Rattle.std.proofs.lemmas.Grind.{flat_map-append}

@@ -5,8 +5,8 @@ use Rattle.std.proofs.Math.Seq.{take-add}
 use Rattle.std.specs.Prelude.{if◌then◌else◌}
 use Rattle.heap_world.specs.World.{World}
 use Rattle.script_lang.specs.Feeding.{Feed, first_part, has_line_feed, kept_line, taken}
-use Rattle.script_lang.specs.Parts.{is_byte, lines, parts, whole_lines}
-use Rattle.script_lang.proofs.FeedingLemmas.{OnePart-first_part, length-taken-le, parts-ended, take-taken}
+use Rattle.script_lang.specs.Parts.{is_byte, parts}
+use Rattle.script_lang.proofs.FeedingLemmas.{OnePart-first_part, parts-ended, take-taken}
 use Rattle.script_lang.proofs.PartsLemmas.{lines-ended, parts-append, whole_lines-last}
 use Rattle.artheap_top.specs.declared.stop.Stop.{Stop}
 use Rattle.artheap_top.specs.declared.stop.Stop.TheVariants.{Read, Write, Memory, TooLong}

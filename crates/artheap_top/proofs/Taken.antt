@@ -1,16 +1,16 @@
 -- What was taken was run as far as lines go, or a line stopped the run, or it is too much; and the last line.
-use Rattle.std.proofs.Common.{◌≡◌, ℕ, ◌+◌, ◌<◌, ◌≤◌, ◌||◌, Bool, true, false, List, [], ◌∷◌, ◌++◌, Option, None, Some, length, length-drop, nat_le, take, drop, refl, sym, ◌∙◌, ap, subst, arith, append_assoc, length-append}
+use Rattle.std.proofs.Common.{◌≡◌, ℕ, ◌+◌, ◌<◌, ◌≤◌, ◌||◌, Bool, true, false, List, [], ◌∷◌, ◌++◌, Option, None, Some, length, nat_le, take, drop, refl, sym, ◌∙◌, ap, subst, arith, append_assoc, length-append}
 use Rattle.std.proofs.lemmas.List.{take-append-drop}
 use Rattle.std.proofs.Math.Seq.{take-append-add}
 use Rattle.std.specs.Prelude.{if◌then◌else◌}
 use Rattle.heap_world.specs.World.{World}
 use Rattle.script_lang.specs.Feeding.{Feed, has_bytes, kept_line}
-use Rattle.script_lang.specs.Parts.{is_byte, lines, parts, whole_lines}
+use Rattle.script_lang.specs.Parts.{lines, whole_lines}
 use Rattle.script_lang.proofs.PartsLemmas.{lines-ended, lines-open, whole_lines-last}
 use Rattle.artheap_top.specs.declared.stop.Stop.{Stop}
 use Rattle.artheap_top.specs.declared.stop.Stop.TheVariants.{Read, Write, Memory, TooLong}
 use Rattle.artheap_top.specs.Ends.{RanLines, input_limit, piece_limit}
-use Rattle.artheap_top.specs.Progress.{HasRun, HasRunLines, HasTooMany, StoppedBehind, StoppedIn, StoppedTaken}
+use Rattle.artheap_top.specs.Progress.{HasRun, HasRunLines, HasTooMany, StoppedIn, StoppedTaken}
 
 -- a stop in the first bytes that were taken last
 stopped_within : (stop : Stop) (budget : ℕ) (text taken : List ℕ) (k f f' : ℕ) (g g1 : Option (List ℕ)) (machine : World) → length taken ≤ piece_limit

@@ -1,20 +1,18 @@
 -- A run of a script from a source: how it begins, goes on, ends, and stops.
-use Rattle.std.proofs.Common.{◌≡◌, ◌⊎◌, inl, inr, ℕ, ◌+◌, ◌<◌, ◌≤◌, ◌||◌, Bool, true, false, List, [], ◌∷◌, ◌++◌, Option, None, Some, Result, Ok, Err, MatchResult, length, map, take, refl, sym, ◌∙◌, ap, subst, arith, length-append}
+use Rattle.std.proofs.Common.{◌≡◌, inl, inr, ℕ, ◌+◌, ◌≤◌, Bool, true, false, List, [], ◌∷◌, ◌++◌, Option, None, Some, Result, Ok, Err, MatchResult, length, map, refl, sym, ◌∙◌, ap, subst, arith, length-append}
 use Rattle.std.specs.Prelude.{IfSome, ◌↔◌, nat_lt}
 use Rattle.std.proofs.lemmas.Bool.{ltb-false}
 use Rattle.std.proofs.lemmas.List.{append-nil}
 use Rattle.heap_world.specs.World.{World, first_world}
 use Rattle.plain_machine.specs.Worlds.{StandsFor}
-use Rattle.ah_outside.specs.Outside.{FaultRose, Gave, Gained}
+use Rattle.ah_outside.specs.Outside.{Gave, Gained}
 use Rattle.script_lang.specs.Feeding.{Feed, fresh_feed}
-use Rattle.script_lang.specs.Parts.{lines, whole_lines}
+use Rattle.script_lang.specs.Parts.{lines}
 use Rattle.script_lang.proofs.PartsLemmas.{whole_lines-last}
 use Rattle.artheap_top.specs.declared.stop.Stop.{Stop}
 use Rattle.artheap_top.specs.declared.stop.Stop.TheVariants.{Read, Write, Memory, TooLong}
-use Rattle.artheap_top.specs.declared.status.Status.{Status}
-use Rattle.artheap_top.specs.declared.status.Status.TheVariants as status
-use Rattle.artheap_top.specs.Ends.{CameTo, EndedRun, NothingLeft, RanLines, RanToEnd, StoppedForMemory, StoppedReading, StoppedWriting, TookTooMany, input_limit, piece_limit}
-use Rattle.artheap_top.specs.Progress.{HasRun, HasRunLines, HasTaken, HasTooMany, PutBehind, StoppedBehind, StoppedIn, StoppedLast, StoppedTaken, job_status, refused_status, stop_status}
+use Rattle.artheap_top.specs.Ends.{CameTo, EndedRun, NothingLeft, RanLines, StoppedForMemory, StoppedReading, StoppedWriting, input_limit, piece_limit}
+use Rattle.artheap_top.specs.Progress.{HasRun, HasRunLines, HasTaken, PutBehind, StoppedIn, StoppedLast, StoppedTaken, job_status, refused_status, stop_status}
 use Rattle.heap_world.specs.Isolation.{NoNameTaken}
 use Rattle.artheap_top.specs.Own.{AreAloneIn, told_by_script}
 use Rattle.artheap_top.specs.Report.{answers, last_world}

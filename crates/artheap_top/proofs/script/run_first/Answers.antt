@@ -1,7 +1,7 @@
-use Rattle.std.proofs.Common.{◌≡◌, ℕ, ◌+◌, ◌<◌, ◌||◌, ◌++◌, Bool, true, false, List, Ok, length, take, sym, ◌∙◌, ap, subst, arith}
+use Rattle.std.proofs.Common.{◌≡◌, ℕ, ◌+◌, ◌<◌, ◌||◌, ◌++◌, false, List, length, sym, ◌∙◌, ap, subst, arith}
 use Rattle.std.proofs.lemmas.Result.{err_from_is_err_and}
 use Rattle.script_lang.specs.Feeding.{first_part, has_line_feed, taken}
-use Rattle.artheap_top.specs.Progress.{HasRun, StoppedIn}
+use Rattle.artheap_top.specs.Progress.{HasRun}
 use Rattle.artheap_top.proofs.Runs.{by_truth, fed_open, fed_stopped, fed_whole}
 use Rattle.artheap_top.proofs.script.run_first.Goals as goal
 

@@ -1,4 +1,4 @@
-use Rattle.std.proofs.Common.{◌≡◌, ◌+◌, ◌||◌, ◌++◌, ◌-◌, List, drop, length, take, arith}
+use Rattle.std.proofs.Common.{◌||◌, ◌++◌, ◌-◌, drop, length, take, arith}
 use Rattle.std.proofs.lemmas.Result.{err_from_is_err_and}
 use Rattle.artheap_top.proofs.Runs.{rest_of, run_more, stop_more}
 use Rattle.artheap_top.proofs.script.run_piece.Goals as goal

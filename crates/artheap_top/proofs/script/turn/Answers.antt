@@ -1,4 +1,4 @@
-use Rattle.std.proofs.Common.{◌≡◌, ℕ, List, [], take, ap, arith}
+use Rattle.std.proofs.Common.{◌≡◌, take, ap}
 use Rattle.std.proofs.lemmas.Result.{err_from_is_err_and}
 use Rattle.artheap_top.proofs.Turns.{not_more, nothing_given, turn_goes_on, turn_reads_no_more, turn_stops}
 use Rattle.artheap_top.proofs.script.turn.Goals as goal
