@@ -1,13 +1,14 @@
 -- What the words of an object tell.
-use Rattle.std.proofs.Common.{Bool, true, ℤ, subst, List, Option, Some, None, ◌≡◌, ◌∙◌, ℕ, ◌+◌, ◌*◌, ◌-◌, ◌%◌, ◌^◌, ◌<◌, ◌≤◌, refl, sym, ap, arith}
+use Rattle.std.proofs.Common.{Bool, true, ◌&&◌, nat_le, ℤ, pos, subst, List, Option, Some, None, ◌≡◌, ◌∙◌, ℕ, ◌+◌, ◌*◌, ◌-◌, ◌%◌, ◌^◌, ◌<◌, ◌≤◌, refl, sym, ap, arith}
 use Rattle.std.specs.Prelude.{◌==◌, if◌then◌else◌, option_map, IsSomeAnd}
+use Rattle.std.proofs.lemmas.Bool.{le-leb}
 use Rattle.std.proofs.lemmas.Option.{same_Some, none-some}
 use Rattle.class_layout.specs.ClassList.{Class}
 use Rattle.class_layout.specs.declared.kind.FieldAt.{FieldAt}
 use Rattle.object_view.specs.declared.names.Slot.{Slot}
 use Rattle.class_layout.specs.declared.kind.Kind.{Kind}
 use Rattle.class_layout.specs.declared.kind.Kind.TheVariants.{Ref, Boolean, Byte, Char, Short, Int, Long}
-use Rattle.cow_pages.specs.Memory.{Memory}
+use Rattle.cow_pages.specs.Memory.{IsSound, Memory}
 use Rattle.cow_pages.specs.View.{byte_at, u32_at, view_of, SameView, View}
 use Rattle.heap_graph.specs.declared.names.Shape.{Shape}
 use Rattle.heap_graph.specs.declared.names.Shape.TheVariants.{Instance, Array}
@@ -16,6 +17,7 @@ use Rattle.object_view.specs.declared.names.Header.TheVariants.{Number, Forward}
 use Rattle.object_view.specs.Objects.{reference_place, slot_at, HasShape, IsObject, IsSlotOf, Stands}
 use Rattle.object_view.specs.Values.{is_value, number_at}
 use Rattle.object_view.specs.Words.{array_word, lock_word, IsHeader}
+use Rattle.cow_pages.proofs.LawLemmas.{numbers, paged}
 use Rattle.object_view.proofs.Numbers.{number-same}
 use Rattle.object_view.proofs.Laid.{place-within, reference-in}
 use Rattle.object_view.proofs.Stores.{loaded}
@@ -81,6 +83,13 @@ number-reads m t n kind at = number-same (view_of m t) (view_of (record m { read
 -- a word that was read later
 pub u32-later : (old new : Memory) (t n at : ℕ) → new ≡ record old { reads = n } → u32_at (view_of new t) at ≡ u32_at (view_of old t) at
 u32-later old new t n at is = ap (λ (m : Memory). u32_at (view_of m t) at) is ∙ number-reads old t n Int at
+
+-- a word of memory is an address of 32 bits
+pub word-fits : (old new : Memory) (t n at : ℕ) → new ≡ record old { reads = n } → IsSound new → u32_at (view_of old t) at < 2 ^ 32
+word-fits old new t n at is sound = let fits = numbers (view_of new t) at (paged new t sound) in subst (λ k. k < 2 ^ 32) (u32-later old new t n at is) fits.u32_fits
+
+pub address-fits : (n : ℕ) → n < 2 ^ 32 → is_value Ref (pos n) ≡ true
+address-fits n small = ap (λ b. b && nat_le n 4294967295) (le-leb 0 n (omega arith)) ∙ le-leb n 4294967295 (omega arith)
 
 -- the place that a reference's offset was taken from
 pub record Found (cs : List Class) (v : View) (at : ℕ) (shape : Shape) (k offset : ℕ) (weak : Bool) : Type 0 where

@@ -46,7 +46,8 @@ pub fn references_rise()
     ensures { (cs : List Class) (shape : Shape) (j k : ℕ) (a b : FieldAt) → j < k → reference_place cs shape j ≡ Some a → reference_place cs shape k ≡ Some b → a.offset + 4 ≤ b.offset }
 {}
 
-/// A shape has so many references: each place of a reference is found by an index below that, and no index from there on finds one.
+/// The indices of references are those below their count: each place of a reference is found by one of them, each of them
+/// finds one, and no other index does.
 pub fn all_references()
     ensures found { (cs : List Class) (shape : Shape) (place : FieldAt) → IsIn place (places_of cs shape) → place.kind ≡ Kind.Ref
         → (k : ℕ) × (k < reference_count cs shape) × (reference_place cs shape k ≡ Some place) }

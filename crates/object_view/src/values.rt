@@ -25,6 +25,7 @@ pub fn load(frames: &mut Frames, t: TableNo, at: Addr, kind: Kind, offset: u32) 
     ensures value { result ≡ value_of kind (number_at (view_of frames.old t.0) kind (at.0 + offset)) }
     ensures object { (cs : List Class) (shape : Shape) (header : Header) (values : FieldAt → ℤ) (place : FieldAt) → Stands cs (view_of frames.old t.0) at.0 shape header values
         → IsPlace cs shape kind offset place → IsTrue (is_value kind (values place)) → result ≡ values place }
+    ensures address { kind ≡ Kind.Ref → IsTrue (is_value Kind.Ref result) }
     ensures reads { frames.new ≡ record frames.old { reads = reads_after frames.old.reads (at.0 + offset) } }
     ensures sound { IsSound frames.new }
 {
