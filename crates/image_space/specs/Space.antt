@@ -1,5 +1,5 @@
 -- The image space: objects placed one directly behind the other, and the pages that hold their bytes.
-use Rattle.std.specs.Prelude.{◌≡◌, ◌≢◌, ◌⊎◌, ℕ, ◌+◌, ◌-◌, ◌/◌, ◌%◌, ◌<◌, ◌≤◌, ◌==◌, ◌||◌, nat_lt, IsTrue, List, [], ◌∷◌, sum, Result, OnErr}
+use Rattle.std.specs.Prelude.{◌≡◌, ◌≢◌, ◌⊎◌, ℕ, ◌+◌, ◌-◌, ◌/◌, ◌%◌, ◌<◌, ◌≤◌, ◌==◌, ◌||◌, nat_lt, false, IsTrue, List, [], ◌∷◌, sum}
 use Rattle.std.specs.List.{list_any}
 use Rattle.cow_pages.specs.declared.address.Window.TheVariants.{Image}
 use Rattle.cow_pages.specs.Address.{page_size, first_page, is_in}
