@@ -3,9 +3,12 @@ use Rattle.std.proofs.Common.{◌≡◌, ◌≢◌, ◌⊎◌, ◌∙◌, ℕ, �
 use Rattle.std.specs.Prelude.{option_map, is_some}
 use Rattle.std.proofs.lemmas.Bool.{cases_eq, cases_lt}
 use Rattle.std.proofs.lemmas.Option.{none-some}
-use Rattle.cow_pages.specs.Memory.{Memory, Page, page_at, frame_at, is_live, is_mapped, HasOneSharer, IsSound}
-use Rattle.cow_pages.specs.Change.{ChangesPage, MapsZeros}
-use Rattle.image_space.specs.Space.{MapsPages}
+use Rattle.cow_pages.specs.Memory.{Memory, Page, page_at, frame_at, is_live, is_mapped, used_frames, HasOneSharer, IsSound}
+use Rattle.cow_pages.specs.Address.{page_of, offset_of}
+use Rattle.cow_pages.specs.Change.{ChangesPage, MapsZeros, TakesOne}
+use Rattle.cow_pages.specs.View.{view_of, OthersSeen}
+use Rattle.cow_pages.proofs.ViewLemmas.{byte-is, byte-page, mapped-page, zeros-at, SameView-pages}
+use Rattle.image_space.specs.Space.{MapsPages, SeesPages}
 
 -- n pages were mapped from this one on, each with one frame that was free
 pub record IsMapping (old new : Memory) (t first n : ℕ) : Type 0 where
@@ -14,6 +17,7 @@ pub record IsMapping (old new : Memory) (t first n : ℕ) : Type 0 where
   pub live : (u : ℕ) → is_live new u ≡ is_live old u
   pub reads : new.reads ≡ old.reads
   pub spare : old.spare ≡ new.spare + n
+  pub used : used_frames new ≡ used_frames old + n
 
 -- the pages were not mapped
 abbrev pub AreFresh : Memory → ℕ → ℕ → ℕ → Type 0
@@ -46,6 +50,7 @@ mapping-none m t first = record {
   live = λ u. refl;
   reads = refl;
   spare = omega arith;
+  used = omega arith;
 }
 
 module _ (old mid new : Memory) (t first n i : ℕ) (fresh : AreFresh old t first n) (within : i ≤ n) (m : IsMapping old mid t first i) where
@@ -56,8 +61,8 @@ module _ (old mid new : Memory) (t first n i : ℕ) (fresh : AreFresh old t firs
     | inr (same, from, to) ↦ absurd (frame-none old t q f (fresh q from (omega arith)) (ap (λ k. frame_at old k q) (sym same) ∙ is))
   ]
 
-  pub mapping-next : MapsZeros mid new t (first + i) → ChangesPage mid new t (first + i) → mid.spare ≡ new.spare + 1 → IsMapping old new t first (i + 1)
-  mapping-next z change spare = record {
+  pub mapping-next : MapsZeros mid new t (first + i) → ChangesPage mid new t (first + i) → TakesOne mid new → mid.spare ≢ 0 → IsMapping old new t first (i + 1)
+  mapping-next z change one some = record {
     zeros = λ p from to. elim (cases_eq p (first + i)) [
       | inl same ↦ subst (MapsZeros old new t) (sym same) (record {
         frame = z.frame;
@@ -83,7 +88,8 @@ module _ (old mid new : Memory) (t first n i : ℕ) (fresh : AreFresh old t firs
     ]);
     live = λ u. change.live u ∙ m.live u;
     reads = change.reads ∙ m.reads;
-    spare = omega (arith, m.spare, spare);
+    spare = omega (arith, m.spare, one.spare, some);
+    used = omega (arith, m.used, one.used);
   }
 
 module _ (old new : Memory) (t first n : ℕ) (m : IsMapping old new t first n) where
@@ -105,6 +111,7 @@ module _ (old new : Memory) (t first n : ℕ) (m : IsMapping old new t first n) 
     live = m.live;
     reads = m.reads;
     spare = omega (arith, m.spare);
+    used = m.used;
   }
 
 -- the same where frames were made free before
@@ -122,4 +129,19 @@ mapping-reserved old mid new t first n same spare maps =
       live = m.live;
       reads = m.reads;
       spare = omega (arith, m.spare, spare);
+      used = m.used;
     }
+
+-- what the addresses of the table show of it
+pub pages-seen : (old new : Memory) (t first n : ℕ) → MapsPages old new t first n → SeesPages (view_of old t) (view_of new t) first n
+pages-seen old new t first n m = record {
+  mapped = λ at from to. ap is_some (m.zeros (page_of at) from to).now;
+  zeros = λ at from to. byte-is new t at _ (m.zeros (page_of at) from to).now ∙ zeros-at 4096 (offset_of at);
+  others = λ at apart.
+      let same = m.others t (page_of at) (inr apart) in
+      (byte-page old new t t at same, mapped-page old new t t at same);
+}
+
+-- and those of the other tables
+pub others-seen : (old new : Memory) (t first n : ℕ) → MapsPages old new t first n → OthersSeen old new t
+others-seen old new t first n m u apart = SameView-pages old new u u (λ q. m.others u q (inl apart))

@@ -1,10 +1,11 @@
 -- The image space: objects placed one directly behind the other, and the pages that hold their bytes.
-use Rattle.std.specs.Prelude.{◌≡◌, ◌≢◌, ◌⊎◌, ℕ, ◌+◌, ◌-◌, ◌/◌, ◌%◌, ◌<◌, ◌≤◌, ◌==◌, ◌||◌, nat_lt, false, IsTrue, List, [], ◌∷◌, sum}
+use Rattle.std.specs.Prelude.{◌≡◌, ◌≢◌, ◌⊎◌, ℕ, ◌+◌, ◌-◌, ◌/◌, ◌%◌, ◌<◌, ◌≤◌, ◌==◌, ◌||◌, nat_lt, true, false, IsTrue, List, [], ◌∷◌, sum}
 use Rattle.std.specs.List.{list_any}
 use Rattle.cow_pages.specs.declared.address.Window.TheVariants.{Image}
-use Rattle.cow_pages.specs.Address.{page_size, first_page, is_in}
-use Rattle.cow_pages.specs.Memory.{Memory, page_at, is_live, is_mapped, HasOneSharer}
+use Rattle.cow_pages.specs.Address.{page_size, page_of, first_page, is_in}
+use Rattle.cow_pages.specs.Memory.{Memory, page_at, is_live, is_mapped, used_frames, HasOneSharer}
 use Rattle.cow_pages.specs.Change.{MapsZeros}
+use Rattle.cow_pages.specs.View.{View}
 use Rattle.mark_bitmap.specs.Marks.{Marks, is_marked}
 
 -- the address of the image window's first byte
@@ -72,6 +73,14 @@ pub record MapsPages (old new : Memory) (t first n : ℕ) : Type 0 where
   pub reads : new.reads ≡ old.reads
   -- at most one free frame was taken for each of them
   pub spare : old.spare ≤ new.spare + n
+  -- and as many more frames have entries
+  pub used : used_frames new ≡ used_frames old + n
+
+-- the same of a table's addresses: those of the pages are mapped now, each with the byte 0, and every other is as it was
+pub record SeesPages (old new : View) (first n : ℕ) : Type 0 where
+  pub mapped : (at : ℕ) → first ≤ page_of at → page_of at < first + n → new.mapped at ≡ true
+  pub zeros : (at : ℕ) → first ≤ page_of at → page_of at < first + n → new.byte at ≡ 0
+  pub others : (at : ℕ) → (page_of at < first) ⊎ (first + n ≤ page_of at) → (new.byte at ≡ old.byte at) × (new.mapped at ≡ old.mapped at)
 
 -- no page of any table changed, and no fewer frames are free
 pub record KeepsPages (old new : Memory) : Type 0 where

@@ -6,5 +6,5 @@ mod space;
 #[cfg(test)]
 mod tests;
 
-pub use laws::{spaces_keep_sizes, spots_are_sums, spots_stay_apart};
+pub use laws::{new_tables_fit, spaces_keep_sizes, spots_are_sums, spots_stay_apart};
 pub use space::{ImageError, ImageSpace};

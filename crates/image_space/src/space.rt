@@ -2,9 +2,10 @@ ghost use Rattle.std.specs.Prelude.{◌≡◌, ◌⊎◌, ℕ, ◌+◌, ◌-◌,
 ghost use Rattle.cow_pages.specs.declared.address.Window.TheVariants.{Image};
 ghost use Rattle.cow_pages.specs.Address.{first_page, page_count};
 ghost use Rattle.cow_pages.specs.Memory.{is_live, page_at, IsSound};
+ghost use Rattle.cow_pages.specs.View.{view_of, OthersSeen};
 ghost use Rattle.mark_bitmap.specs.Marks.{is_marked};
 ghost use Rattle.image_space.specs.declared.space.ImageError.{ImageError};
-ghost use Rattle.image_space.specs.Space.{image_bytes, pages_up_to, end_page, further_pages, IsSize, IsSpace, HasPagesUpTo, Places, MapsPages, KeepsPages};
+ghost use Rattle.image_space.specs.Space.{image_bytes, pages_up_to, end_page, further_pages, IsSize, IsSpace, HasPagesUpTo, Places, MapsPages, SeesPages, KeepsPages};
 
 use cow_pages::{Addr, Frames, PageNo, TableNo};
 use mark_bitmap::Bitmap;
@@ -80,8 +81,10 @@ impl ImageSpace {
         requires pages { HasPagesUpTo frames.old t.0 self.old.fill }
         ensures places { IfOk result (λ at. Places self.old self.new at.0 size) }
         ensures maps { IfOk result (λ _. MapsPages frames.old frames.new t.0 (end_page self.old.fill) (further_pages self.old.fill (self.old.fill + size))) }
+        ensures view { IfOk result (λ _. SeesPages (view_of frames.old t.0) (view_of frames.new t.0) (end_page self.old.fill) (further_pages self.old.fill (self.old.fill + size))) }
+        ensures others_seen { IfOk result (λ _. OthersSeen frames.old frames.new t.0) }
+        ensures live { IsTrue (is_live frames.new t.0) }
         ensures pages { HasPagesUpTo frames.new t.0 self.new.fill }
-        ensures fits { IfOk result (λ _. self.old.fill + size ≤ image_bytes) }
         ensures full { image_bytes < self.old.fill + size → (result ≡ Err (ImageError.Full self.old.fill size)) × (frames.new ≡ frames.old) }
         ensures err { IfErr result (λ e. (image_bytes < self.old.fill + size) ⊎ (e ≡ ImageError.OutOfMemory)) }
         ensures same { IfErr result (λ _. (self.new ≡ self.old) × KeepsPages frames.old frames.new) }

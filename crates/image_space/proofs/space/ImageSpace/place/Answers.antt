@@ -1,6 +1,6 @@
 use Rattle.std.proofs.Common.{◌≡◌, ℕ, ◌+◌, ◌-◌, ap, subst, arith}
 use Rattle.image_space.specs.Space.{Space, MapsPages, end_page, further_pages}
-use Rattle.image_space.proofs.PageLemmas.{mapping-reserved}
+use Rattle.image_space.proofs.PageLemmas.{mapping-reserved, pages-seen, others-seen}
 use Rattle.image_space.proofs.space.ImageSpace.place.Goals as goal
 
 pub returns-clause-maps : goal.returns-clause-maps
@@ -18,3 +18,13 @@ returns-clause-maps c =
     c.in_ok-reserve.ensures.rest (omega (arith, c.in_ok-reserve.ensures.no_more))
     (subst (λ (k : ℕ). MapsPages mid new t k (further_pages old (old + c.args.size))) first
     (subst (λ (n : ℕ). MapsPages mid new t (131072 + c.pages_up_to-mapped.result) n) count c.map_pages.ensures.maps))
+
+pub returns-clause-view : goal.returns-clause-view
+returns-clause-view c =
+    let old = c.args.self.now.fill in
+    pages-seen c.args.frames.now c.map_pages.new.frames c.args.t.0 (end_page old) (further_pages old (old + c.args.size)) (returns-clause-maps c)
+
+pub returns-clause-others_seen : goal.returns-clause-others_seen
+returns-clause-others_seen c =
+    let old = c.args.self.now.fill in
+    others-seen c.args.frames.now c.map_pages.new.frames c.args.t.0 (end_page old) (further_pages old (old + c.args.size)) (returns-clause-maps c)
