@@ -1,9 +1,9 @@
 -- What the mapping of pages, one after the other, does to all pages.
-use Rattle.std.proofs.Common.{◌≡◌, ◌≢◌, ◌⊎◌, ◌∙◌, ℕ, ◌+◌, ◌-◌, ◌<◌, ◌≤◌, Bool, Option, Some, None, true, false, true≢false, IsTrue, nat_lt, refl, sym, ap, subst, inl, inr, arith, lt-ltb, le-ltb, ltb-true}
+use Rattle.std.proofs.Common.{◌≡◌, ◌≢◌, ◌⊎◌, ◌∙◌, ℕ, ◌+◌, ◌<◌, ◌≤◌, Some, None, refl, sym, ap, subst, inl, inr, arith}
 use Rattle.std.specs.Prelude.{option_map, is_some}
 use Rattle.std.proofs.lemmas.Bool.{cases_eq, cases_lt}
 use Rattle.std.proofs.lemmas.Option.{none-some}
-use Rattle.cow_pages.specs.Memory.{Memory, Page, page_at, frame_at, is_live, is_mapped, used_frames, HasOneSharer, IsSound}
+use Rattle.cow_pages.specs.Memory.{Memory, Page, page_at, frame_at, is_live, used_frames, HasOneSharer, IsSound}
 use Rattle.cow_pages.specs.Address.{page_of, offset_of}
 use Rattle.cow_pages.specs.Change.{ChangesPage, MapsZeros, TakesOne}
 use Rattle.cow_pages.specs.View.{view_of, OthersSeen}

@@ -1,4 +1,4 @@
-use Rattle.std.proofs.Common.{◌≡◌, ◌+◌, sym, subst, arith}
+use Rattle.std.proofs.Common.{◌≡◌, subst, arith}
 use Rattle.image_space.proofs.PageLemmas.{IsMapping, mapping-next, mapping-all}
 use Rattle.image_space.proofs.space.map_pages.Goals as goal
 
