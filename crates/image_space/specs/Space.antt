@@ -1,0 +1,99 @@
+-- The image space: objects placed one directly behind the other, and the pages that hold their bytes.
+use Rattle.std.specs.Prelude.{◌≡◌, ◌≢◌, ◌⊎◌, ℕ, ◌+◌, ◌-◌, ◌/◌, ◌%◌, ◌<◌, ◌≤◌, ◌==◌, ◌||◌, nat_lt, true, false, IsTrue, List, [], ◌∷◌, sum}
+use Rattle.std.specs.List.{list_any}
+use Rattle.cow_pages.specs.declared.address.Window.TheVariants.{Image}
+use Rattle.cow_pages.specs.Address.{page_size, page_of, first_page, is_in}
+use Rattle.cow_pages.specs.Memory.{Memory, page_at, is_live, is_mapped, used_frames, HasOneSharer}
+use Rattle.cow_pages.specs.Change.{MapsZeros}
+use Rattle.cow_pages.specs.View.{View}
+use Rattle.mark_bitmap.specs.Marks.{Marks, is_marked}
+
+-- the address of the image window's first byte
+abbrev pub image_start : ℕ
+image_start = 0x20000000
+
+-- how many bytes the image window has
+abbrev pub image_bytes : ℕ
+image_bytes = 67108864
+
+-- how many bytes the objects have together, and the set of the addresses at which they start
+pub record Space : Type 0 where
+  pub fill : ℕ
+  pub starts : Marks
+
+-- the address of the next object, behind so many bytes
+abbrev pub image_spot : ℕ → ℕ
+image_spot fill = image_start + fill
+
+-- how many pages hold so many bytes
+abbrev pub pages_up_to : ℕ → ℕ
+pages_up_to fill = (fill + (page_size - 1)) / page_size
+
+-- the page behind those that hold so many bytes of the image
+abbrev pub end_page : ℕ → ℕ
+end_page fill = first_page Image + pages_up_to fill
+
+-- how many pages hold bytes up to the second fill, and none up to the first
+abbrev pub further_pages : ℕ → ℕ → ℕ
+further_pages fill next = pages_up_to next - pages_up_to fill
+
+-- a size that an object may have
+pub record IsSize (size : ℕ) : Type 0 where
+  pub multiple : size % 8 ≡ 0
+  pub least : 8 ≤ size
+  pub greatest : size ≤ 1048576
+
+-- what holds of each space: it ends at a multiple of 8 in its window, and its starts are kept over its bytes
+pub record IsSpace (s : Space) : Type 0 where
+  pub multiple : s.fill % 8 ≡ 0
+  pub bounded : s.fill ≤ image_bytes
+  pub start : s.starts.start ≡ image_start
+  pub span : s.starts.span ≡ s.fill
+
+-- of the image window's pages, exactly those are mapped that hold so many bytes
+abbrev pub HasPagesUpTo : Memory → ℕ → ℕ → Type 0
+HasPagesUpTo m t fill = (p : ℕ) → IsTrue (is_in Image p) → is_mapped m t p ≡ nat_lt p (end_page fill)
+
+-- an object of this size was placed at this address: behind all others, and one more start
+pub record Places (old new : Space) (at size : ℕ) : Type 0 where
+  pub spot : at ≡ image_spot old.fill
+  pub fill : new.fill ≡ old.fill + size
+  pub starts : (q : ℕ) → is_marked new.starts q ≡ (q == at || is_marked old.starts q)
+
+-- n pages of a table were mapped, from this one on, and no other page of any table changed
+pub record MapsPages (old new : Memory) (t first n : ℕ) : Type 0 where
+  -- they were not mapped, and have zeros now, no flag, and frames that no entry had
+  pub fresh : (p : ℕ) → first ≤ p → p < first + n → is_mapped old t p ≡ false
+  pub zeros : (p : ℕ) → first ≤ p → p < first + n → MapsZeros old new t p
+  -- each of them has its frame alone
+  pub alone : (p : ℕ) → first ≤ p → p < first + n → HasOneSharer new t p
+  -- every other page is as it was, with its bytes, flag and frame
+  pub others : (u q : ℕ) → (u ≢ t) ⊎ ((q < first) ⊎ (first + n ≤ q)) → page_at new u q ≡ page_at old u q
+  pub live : (u : ℕ) → is_live new u ≡ is_live old u
+  pub reads : new.reads ≡ old.reads
+  -- at most one free frame was taken for each of them
+  pub spare : old.spare ≤ new.spare + n
+  -- and as many more frames have entries
+  pub used : used_frames new ≡ used_frames old + n
+
+-- the same of a table's addresses: those of the pages are mapped now, each with the byte 0, and every other is as it was
+pub record SeesPages (old new : View) (first n : ℕ) : Type 0 where
+  pub mapped : (at : ℕ) → first ≤ page_of at → page_of at < first + n → new.mapped at ≡ true
+  pub zeros : (at : ℕ) → first ≤ page_of at → page_of at < first + n → new.byte at ≡ 0
+  pub others : (at : ℕ) → (page_of at < first) ⊎ (first + n ≤ page_of at) → (new.byte at ≡ old.byte at) × (new.mapped at ≡ old.mapped at)
+
+-- no page of any table changed, and no fewer frames are free
+pub record KeepsPages (old new : Memory) : Type 0 where
+  pub tables : new.tables ≡ old.tables
+  pub reads : new.reads ≡ old.reads
+  pub spare : old.spare ≤ new.spare
+
+-- the addresses of objects of these sizes, each directly behind the one before, from an address on
+abbrev pub spots_from : ℕ → List ℕ → List ℕ
+spots_from at [] = []
+spots_from at (size ∷ more) = at ∷ spots_from (at + size) more
+
+-- the space has objects of exactly these sizes, in the order in which they were placed
+pub record HasSizes (s : Space) (sizes : List ℕ) : Type 0 where
+  pub fill : s.fill ≡ sum sizes
+  pub starts : (q : ℕ) → is_marked s.starts q ≡ list_any (λ spot. q == spot) (spots_from image_start sizes)

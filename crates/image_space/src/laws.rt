@@ -1,0 +1,27 @@
+//! Laws about spots: the objects of a space stand at the sums of the sizes before them.
+ghost use Rattle.std.specs.Prelude.{◌≡◌, ℕ, ◌+◌, ◌≤◌, List, [], ◌∷◌, ◌++◌, sum, None, IsFalse};
+ghost use Rattle.cow_pages.specs.Memory.{Memory, page_at};
+ghost use Rattle.mark_bitmap.specs.Marks.{is_marked};
+ghost use Rattle.image_space.specs.Space.{Space, HasPagesUpTo, HasSizes, Places, image_spot, image_start, spots_from};
+
+/// The spot of an object is the window's first address plus the sum of the sizes before it.
+pub fn spots_are_sums()
+    ensures { (before more : List ℕ) (size : ℕ) → spots_from image_start (before ++ size ∷ more)
+        ≡ spots_from image_start before ++ image_spot (sum before) ∷ spots_from (image_spot (sum before + size)) more }
+{}
+
+/// An object ends at or before the spot of each later one.
+pub fn spots_stay_apart()
+    ensures { (before between : List ℕ) (size : ℕ) → image_spot (sum before) + size ≤ image_spot (sum (before ++ size ∷ between)) }
+{}
+
+/// A space without bytes has no sizes, and one in which an object is placed has its size besides.
+pub fn spaces_keep_sizes()
+    ensures empty { (s : Space) → s.fill ≡ 0 → ((q : ℕ) → IsFalse (is_marked s.starts q)) → HasSizes s [] }
+    ensures more { (old new : Space) (sizes : List ℕ) (at size : ℕ) → HasSizes old sizes → Places old new at size → HasSizes new (sizes ++ size ∷ []) }
+{}
+
+/// A table without pages has exactly those of a space without bytes.
+pub fn new_tables_fit()
+    ensures { (m : Memory) (t : ℕ) → ((p : ℕ) → page_at m t p ≡ None) → HasPagesUpTo m t 0 }
+{}

@@ -1,0 +1,10 @@
+//! The image space: boot objects, each directly behind the one before, in the pages of the image window.
+#![tactic(auto)]
+
+mod laws;
+mod space;
+#[cfg(test)]
+mod tests;
+
+pub use laws::{new_tables_fit, spaces_keep_sizes, spots_are_sums, spots_stay_apart};
+pub use space::{ImageError, ImageSpace};
