@@ -1,20 +1,19 @@
 -- Clears one after the other are a clear of all.
-use Rattle.std.proofs.Common.{cond, ◌≡◌, ◌≢◌, ◌⊎◌, ◌∙◌, ℕ, ◌+◌, ◌*◌, ◌<◌, ◌≤◌, Bool, true, false, true≢false, ◌||◌, List, [], ◌∷◌, ◌++◌, Option, Some, None, get_or, refl, sym, ap, subst, inl, inr, arith, IsTrue, replicate, ◌-◌, eq-eqb}
+use Rattle.std.proofs.Common.{cond, ◌≡◌, ◌≢◌, ◌⊎◌, ◌∙◌, ℕ, ◌+◌, ◌*◌, ◌<◌, ◌≤◌, Bool, true, false, true≢false, ◌||◌, List, [], ◌∷◌, ◌++◌, Option, Some, None, get_or, refl, sym, ap, subst, inl, inr, arith, IsTrue, ◌-◌, eq-eqb}
 use Rattle.std.specs.Prelude.{option_map, is_some, ◌==◌, ◌&&◌, nat_le, nat_lt}
 use Rattle.std.specs.Int.{w32, to_le_bytes}
 use Rattle.std.proofs.lemmas.Bool.{cases_eq, cases_lt, cases_Bool, or_cases, eqb-true, or_left, or_right, or_parts}
-use Rattle.std.proofs.lemmas.Option.{same_Some}
 use Rattle.std.proofs.lemmas.List.Folds.{list_any-append}
 use Rattle.cow_pages.specs.Address.{page_of}
 use Rattle.cow_pages.specs.Memory.{Memory, Page, page_at, frame_at, is_mapped, is_written, flag_of, HasOneSharer, IsShared, IsFree, IsSound}
-use Rattle.cow_pages.specs.Change.{KeepsRoom, TakesOnCopy, WritesPage}
-use Rattle.cow_pages.specs.View.{View, view_of, SameView, OthersSeen, WritesBytes}
+use Rattle.cow_pages.specs.Change.{TakesOnCopy, WritesPage}
+use Rattle.cow_pages.specs.View.{View, view_of, OthersSeen, WritesBytes}
 use Rattle.cow_pages.proofs.ViewLemmas.{SameView-pages, zeros-at}
 use Rattle.object_view.specs.Changes.{ChangesPages}
 use Rattle.object_view.proofs.Lookups.{byte-reads}
 use Rattle.object_view.proofs.Numbers.{bytes_at-nth}
 use Rattle.object_view.proofs.Spans.{frame-same, not-shared, AreWritten-write, ChangesPages-write}
-use Rattle.weak_refs.specs.Weak.{is_byte_of, is_page_of, cleared, shared_pages, ClearsSlots}
+use Rattle.weak_refs.specs.Weak.{is_byte_of, is_page_of, shared_pages, ClearsSlots}
 use Rattle.weak_refs.proofs.Slots.{cond-or, in-slot, out-of-slot}
 
 written-frame : (m : Memory) (t p : ℕ) → IsTrue (is_written m t p) → (f : ℕ) × (frame_at m t p ≡ Some f)

@@ -1,7 +1,7 @@
 -- What references hold while others are cleared.
-use Rattle.std.proofs.Common.{cond, ◌≡◌, ◌≢◌, ◌⊎◌, ◌∙◌, ℕ, zero, suc, ◌+◌, ◌*◌, ◌%◌, ◌<◌, ◌≤◌, Bool, true, false, ◌&&◌, ◌||◌, not, nat_le, nat_lt, nat_eq, List, [], ◌∷◌, ◌++◌, length, take, get_or, refl, sym, ap, subst, inl, inr, arith, IsTrue, add-zero}
+use Rattle.std.proofs.Common.{cond, ◌≡◌, ◌≢◌, ◌∙◌, ℕ, zero, suc, ◌+◌, ◌%◌, ◌<◌, ◌≤◌, Bool, true, false, ◌&&◌, ◌||◌, not, nat_le, nat_lt, nat_eq, List, [], ◌∷◌, ◌++◌, length, take, get_or, refl, sym, ap, subst, inl, inr, arith, IsTrue, add-zero}
 use Rattle.std.specs.Prelude.{◌==◌}
-use Rattle.std.specs.List.{list_any, filter, All, Contains, IsDistinct}
+use Rattle.std.specs.List.{filter, Contains}
 use Rattle.std.proofs.lemmas.Bool.{cases_eq, cases_Bool, eqb-true, eqb-false, eq-eqb}
 use Rattle.std.proofs.lemmas.List.{append-nil, length-take-le, get_or-map}
 use Rattle.std.proofs.lemmas.List.Elements.{filter-append, All-take}
@@ -19,7 +19,7 @@ use Rattle.cow_pages.specs.View.{View, view_of, u32_at}
 use Rattle.object_view.specs.Changes.{reads_after_all}
 use Rattle.object_view.proofs.Bytes.{window-below}
 use Rattle.object_view.proofs.Spans.{not-shared}
-use Rattle.weak_refs.specs.Weak.{addresses, is_dead, dead_in, is_byte_of, is_page_of, cleared, shared_pages, AreSlots, ClearsSlots}
+use Rattle.weak_refs.specs.Weak.{addresses, is_dead, dead_in, is_page_of, cleared, shared_pages, AreSlots, ClearsSlots}
 use Rattle.weak_refs.proofs.Slots.{any-kept, filter-none, in-slot, not-byte, pages-more, u32-same, u32-zero}
 use Rattle.weak_refs.proofs.Clears.{alone-stays, clears-both, clears-none}
 

@@ -1,14 +1,14 @@
 -- Slots of 4 bytes, and which bytes and pages they take.
-use Rattle.std.proofs.Common.{cond, ◌≡◌, ◌≢◌, ◌⊎◌, ◌∙◌, ℕ, zero, suc, ◌+◌, ◌*◌, ◌%◌, ◌<◌, ◌≤◌, Bool, true, false, true≢false, ◌&&◌, ◌||◌, not, nat_le, nat_lt, nat_eq, List, [], ◌∷◌, ◌++◌, length, get_or, refl, sym, ap, subst, inl, inr, arith, eq-eqb}
+use Rattle.std.proofs.Common.{cond, ◌≡◌, ◌≢◌, ◌⊎◌, ◌∙◌, ℕ, zero, suc, ◌+◌, ◌%◌, ◌<◌, ◌≤◌, Bool, true, false, true≢false, ◌&&◌, ◌||◌, nat_le, nat_lt, List, [], ◌∷◌, ◌++◌, length, get_or, refl, sym, ap, inl, inr, arith, eq-eqb}
 use Rattle.std.specs.Prelude.{◌==◌}
-use Rattle.std.specs.List.{list_any, filter, All, Contains}
-use Rattle.std.proofs.lemmas.Bool.{cases_eq, cases_lt, cases_Bool, lt-ltb, le-ltb, le-leb, lt-leb, ne_eqb, and_right, or_left, or_right}
+use Rattle.std.specs.List.{list_any, filter, All}
+use Rattle.std.proofs.lemmas.Bool.{cases_eq, cases_lt, lt-ltb, le-ltb, le-leb, lt-leb, ne_eqb, and_right, or_left, or_right}
 use Rattle.std.proofs.lemmas.List.Folds.{list_any-append}
 use Rattle.class_layout.specs.declared.kind.Kind.TheVariants.{Ref}
 use Rattle.cow_pages.specs.Address.{page_of}
 use Rattle.cow_pages.specs.View.{View, u32_at}
 use Rattle.object_view.proofs.Numbers.{number-same, number-zero}
-use Rattle.weak_refs.specs.Weak.{is_dead, dead_in, is_byte_of, is_page_of, cleared, shared_pages, AreSlots}
+use Rattle.weak_refs.specs.Weak.{is_byte_of, is_page_of, shared_pages}
 
 pub cond-or : (d e : Bool) (n : ℕ) → cond e 0 (cond d 0 n) ≡ cond {A = ℕ} (d || e) 0 n
 cond-or true true n = refl
