@@ -1,0 +1,10 @@
+//! References that do not keep what they name: those whose target was not kept become null.
+#![tactic(auto)]
+
+mod clear;
+mod laws;
+#[cfg(test)]
+mod tests;
+
+pub use clear::{KeepTest, clear_dead};
+pub use laws::cleared_references;
