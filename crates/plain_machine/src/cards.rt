@@ -1,22 +1,14 @@
 //! Cards of the image and the zygote window.
 ghost use Rattle.std.specs.Prelude.{◌≡◌, ◌+◌, ◌-◌, ◌/◌, ◌++◌, [], IfOk, OnOk, option_to_list};
+ghost use Rattle.model_numbers.specs.Numbers.{card_bytes};
 ghost use Rattle.heap_graph.specs.Graph.{is_immune};
-ghost use Rattle.heap_graph.specs.Sizes.{card_bytes};
 ghost use Rattle.heap_world.specs.Cards.{same_card, is_card_among, add_card, add_cards, cards_if, cards_in, held_cards, is_outward, object_cards, slot_cards};
 
 use heap_graph::{Place, Slot, Stored};
 use heap_world::Card;
+use model_numbers::{CARD_BYTES, IMAGE_BASE, ZYGOTE_BASE};
 use plain_graph::{Graph, Object};
 use std::alloc::{AllocError, Global};
-
-/// The bytes of a card.
-const CARD_BYTES: u64 = 1024;
-
-/// The first address of the image.
-pub(crate) const IMAGE_BASE: u32 = 0x2000_0000;
-
-/// The first address of the zygote window.
-pub(crate) const ZYGOTE_BASE: u32 = 0x3000_0000;
 
 fn same_card(a: &Card, b: &Card) -> bool
     ensures { result ≡ same_card a.now b.now }
@@ -58,7 +50,8 @@ pub(crate) fn card_in(place: Place, offset: u32) -> Option<Card>
 fn card_of(spot: u32, offset: u32, base: u32) -> u32
     ensures { result ≡ (spot + offset - base) / card_bytes }
 {
-    ((u64::from(spot) + u64::from(offset)).saturating_sub(u64::from(base)) / CARD_BYTES) as u32
+    ((u64::from(spot) + u64::from(offset)).saturating_sub(u64::from(base))
+        / u64::from(CARD_BYTES)) as u32
 }
 
 /// A set of cards with more of them, the last one first.

@@ -2,7 +2,6 @@
 ghost use Rattle.std.specs.Prelude.{◌≡◌, [], ◌∷◌, ◌++◌, ◌+◌, ◌*◌, ◌^◌, ◌≤◌, length, map, nat_eq, sum, IfOk, OnOk};
 ghost use Rattle.std.specs.List.{flat_map, list_any};
 ghost use Rattle.std.specs.Option.{option_copied};
-ghost use Rattle.heap_graph.specs.Sizes.{page_bytes};
 ghost use Rattle.heap_world.specs.Formed.{IsFormed};
 ghost use Rattle.heap_world.specs.Pages.{distinct, large_page_count, own_page_count, standing_pages, young_page_count};
 ghost use Rattle.heap_world.specs.Sound.{IsSound};

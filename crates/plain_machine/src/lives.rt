@@ -1,6 +1,7 @@
 //! Commands on a process as a whole: the seal, collections, forks, its end, and what it counts.
 ghost use Rattle.std.specs.Prelude.{◌≡◌, ◌<◌, ◌≤◌, ◌++◌, true, length, IfOk, OnOk};
 ghost use Rattle.std.specs.List.{flat_map};
+ghost use Rattle.model_numbers.specs.Numbers.{number_limit};
 ghost use Rattle.heap_graph.specs.Collection.{collect, loose_count};
 ghost use Rattle.heap_graph.specs.Packing.{free};
 ghost use Rattle.heap_world.specs.Acts.{fork_by, fork_to, fork_pages, gc_if, gc_to, page_counts, seal_if};
@@ -83,7 +84,7 @@ impl Part {
 
     // A collection to a graph.
     fn collect_to(&self, graph: Graph) -> Result<Outcome, AllocError>
-        requires few { length self.now.graph.objects < 268435456 }
+        requires few { length self.now.graph.objects < number_limit }
         requires fewer { length graph.objects ≤ length self.now.graph.objects }
         requires loose { loose_count graph ≤ length self.now.graph.objects }
         ensures { IfOk result (λ out. IsOutcome self.now out (gc_to self.now graph)) }
@@ -111,7 +112,7 @@ impl Part {
         requires sealed { self.now.graph.sealed ≡ true }
         ensures graph { IfOk result (λ g. g ≡ collect self.now.graph) }
         ensures formed { IfOk result (λ g. IsFormed g) }
-        ensures few { length self.now.graph.objects < 268435456 }
+        ensures few { length self.now.graph.objects < number_limit }
         ensures fewer { IfOk result (λ g. length g.objects ≤ length self.now.graph.objects) }
         ensures loose { IfOk result (λ g. loose_count g ≤ length self.now.graph.objects) }
     {

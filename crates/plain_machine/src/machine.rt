@@ -1,6 +1,7 @@
 ghost use Rattle.std.specs.Prelude.{◌≡◌, ◌<◌, ◌≤◌, ℕ, List, [], ◌∷◌, ◌++◌, false, Some, length, slice_get, unwrap_or, IfOk, IfSome, OnOk, OnErr, MatchResult};
 ghost use Rattle.std.specs.List.{list_any, position};
 ghost use Rattle.std.specs.Option.{option_copied};
+ghost use Rattle.model_numbers.specs.Numbers.{most_regions, number_limit};
 ghost use Rattle.class_layout.specs.Names.{same_name};
 ghost use Rattle.heap_world.specs.Formed.{HasFewFields};
 ghost use Rattle.heap_world.specs.Sound.{IsSound};
@@ -98,8 +99,8 @@ impl Machine {
     #[tactic(auto, unfolding(crate::specs::Worlds::StandsFor))]
     pub fn prepare(&mut self, regions: u32, number: u32) -> Result<(), AllocError>
         requires is_new { StandsFor self.old empty_world }
-        requires few_regions { (1 ≤ regions) × (regions ≤ 512) }
-        requires numbered { (1 ≤ number) × (number ≤ 268435456) }
+        requires few_regions { (1 ≤ regions) × (regions ≤ most_regions) }
+        requires numbered { (1 ≤ number) × (number ≤ number_limit) }
         ensures ok { OnOk result (StandsFor self.new (first_world regions number)) }
         ensures err { OnErr result (StandsFor self.new empty_world) }
     {

@@ -1,10 +1,11 @@
 //! Commands that define classes and make objects.
 ghost use Rattle.std.specs.Prelude.{◌≡◌, ◌+◌, ◌<◌, ◌≤◌, ◌^◌, false, length, IfOk, OnOk};
+ghost use Rattle.model_numbers.specs.Numbers.{page_bytes, field_limit};
 ghost use Rattle.class_layout.specs.ClassList.{define_class, number_of};
 ghost use Rattle.heap_graph.specs.declared.names.Held.TheVariants as held;
 ghost use Rattle.heap_graph.specs.declared.names.Shape.TheVariants as shape;
 ghost use Rattle.heap_graph.specs.Allocation as allocated;
-ghost use Rattle.heap_graph.specs.Sizes.{is_too_large, page_bytes, parts_for};
+ghost use Rattle.heap_graph.specs.Sizes.{is_too_large, parts_for};
 ghost use Rattle.heap_world.specs.Acts.{after_define, after_make, make_shape, make_slots, make_weak, new_of_class, pages_of_new};
 ghost use Rattle.heap_world.specs.Part.{with_collected};
 ghost use Rattle.heap_world.specs.Slots.{held_by_root};
@@ -14,17 +15,15 @@ ghost use Rattle.plain_machine.specs.Outcomes.{IsOutcome};
 
 use crate::cards::held_cards;
 use crate::outcome::Outcome;
-use crate::pages::{PAGE_BYTES, image_pages, large_pages};
+use crate::pages::{image_pages, large_pages};
 use crate::part::Part;
 use crate::slots::slot_of;
 use class_layout::{DefineError, FieldAt, FieldDecl, Kind, Name};
 use heap_graph::{Held, Shape, Stored};
 use heap_world::{PageName, Refusal, Reply, sizes_are_bounded};
+use model_numbers::{NUMBER_LIMIT, PAGE_BYTES};
 use plain_graph::{Allocated, Graph, is_large, is_too_large, size_in, unrounded};
 use std::alloc::AllocError;
-
-/// The allocation numbers end below this one.
-const NUMBER_LIMIT: u32 = 268_435_456;
 
 /// Where the referent of a weak reference stands.
 const REFERENT: FieldAt = FieldAt {
@@ -39,7 +38,7 @@ pub(crate) fn pages_for(bytes: u64) -> u32
     ensures value { result ≡ parts_for page_bytes bytes }
     ensures small { result ≤ 2 ^ 28 }
 {
-    bytes.div_ceil(PAGE_BYTES) as u32
+    bytes.div_ceil(u64::from(PAGE_BYTES)) as u32
 }
 
 impl Part {
@@ -50,7 +49,7 @@ impl Part {
         parent: &Name,
         fields: &[FieldDecl],
     ) -> Result<Outcome, AllocError>
-        requires few { length fields.now ≤ 4096 }
+        requires few { length fields.now ≤ field_limit }
         ensures { IfOk result (λ out. IsOutcome self.now out (after_define self.now (define_class self.now.graph.classes name parent.now fields.now))) }
     {
         match self.graph.with_class(name, parent, fields) {

@@ -1,17 +1,14 @@
 //! Pages that processes may share, by name.
 ghost use Rattle.std.specs.Prelude.{◌≡◌, ◌<◌, ◌+◌, ◌-◌, ◌/◌, ◌^◌, map, count_by, IfOk};
-ghost use Rattle.heap_graph.specs.Sizes.{page_bytes};
+ghost use Rattle.model_numbers.specs.Numbers.{page_bytes};
 ghost use Rattle.heap_world.specs.Pages.{same_page, is_touched, count_from, is_image_page, is_zygote_page, is_large_page, page_in};
 ghost use Rattle.heap_world.specs.declared.names.PageName.TheVariants as page;
 
-use crate::cards::{IMAGE_BASE, ZYGOTE_BASE};
 use heap_graph::Place;
 use heap_world::PageName;
+use model_numbers::{IMAGE_BASE, PAGE_BYTES, ZYGOTE_BASE};
 use plain_graph::Object;
 use std::alloc::{AllocError, Global};
-
-/// The bytes of a page.
-pub(crate) const PAGE_BYTES: u64 = 4096;
 
 /// Whether two names are of one page.
 pub(crate) fn same_page(a: &PageName, b: &PageName) -> bool
@@ -125,10 +122,7 @@ pub(crate) fn page_in(o: &Object, offset: u32) -> Option<PageName>
     match o.place() {
         Place::Image(spot) => Some(PageName::Image(page_of(spot, offset, IMAGE_BASE))),
         Place::Zygote(spot) => Some(PageName::Zygote(page_of(spot, offset, ZYGOTE_BASE))),
-        Place::Large | Place::Promoted => Some(PageName::Large(
-            o.number(),
-            offset / PAGE_BYTES as u32,
-        )),
+        Place::Large | Place::Promoted => Some(PageName::Large(o.number(), offset / PAGE_BYTES)),
         Place::Young => None,
     }
 }
@@ -136,5 +130,6 @@ pub(crate) fn page_in(o: &Object, offset: u32) -> Option<PageName>
 fn page_of(spot: u32, offset: u32, base: u32) -> u32
     ensures { result ≡ (spot + offset - base) / page_bytes }
 {
-    ((u64::from(spot) + u64::from(offset)).saturating_sub(u64::from(base)) / PAGE_BYTES) as u32
+    ((u64::from(spot) + u64::from(offset)).saturating_sub(u64::from(base))
+        / u64::from(PAGE_BYTES)) as u32
 }

@@ -5,6 +5,7 @@ use Rattle.std.proofs.Math.Seq.{take-append_seam, drop-append_seam, drop-length}
 use Rattle.std.proofs.lemmas.Bool.{le-leb}
 use Rattle.std.proofs.lemmas.Bool.Decides.{leb_tells}
 use Rattle.std.specs.Prelude.{if◌then◌else◌}
+use Rattle.model_numbers.specs.Numbers.{line_limit}
 use Rattle.script_lang.specs.Parts.{with_byte, parts, is_byte, without_empty_last, lines}
 use Rattle.script_lang.specs.Feeding.{kept_line, FedLine, Feed, first_of, behind_first, is_any, first_part, has_line_feed, taken, grown, has_bytes, after_feeding, after_end, at_next, line_at, numbered, going_on, ahead, fresh_feed, LinesCome, over, ends, feeds, hands}
 use Rattle.script_lang.specs.FeedState.{IsOneLine, IsEmptyAtEnd}
@@ -43,21 +44,21 @@ piece_cases (b ∷ bs) = with_first (nat_eq b 10) refl (piece_cases bs)
       ap (λ (is : Bool). with_byte is b (parts (is_byte 10) p)) e ∙ ap (with_byte false b) one,
     )
 
-kept_line-short : (line : List ℕ) → length line ≤ 4096 → kept_line line ≡ Some line
-kept_line-short line h = ap (λ (short : Bool). if short then Some line else None) (le-leb (length line) 4096 h)
+kept_line-short : (line : List ℕ) → length line ≤ line_limit → kept_line line ≡ Some line
+kept_line-short line h = ap (λ (short : Bool). if short then Some line else None) (le-leb (length line) line_limit h)
 
-kept_line-long : (line : List ℕ) → 4096 < length line → kept_line line ≡ None
-kept_line-long line h = by_test (leb_tells (length line) 4096)
+kept_line-long : (line : List ℕ) → line_limit < length line → kept_line line ≡ None
+kept_line-long line h = by_test (leb_tells (length line) line_limit)
   where
-    by_test : (((nat_le (length line) 4096 ≡ true) × (length line ≤ 4096)) ⊎ ((nat_le (length line) 4096 ≡ false) × (4096 < length line))) → kept_line line ≡ None
+    by_test : (((nat_le (length line) line_limit ≡ true) × (length line ≤ line_limit)) ⊎ ((nat_le (length line) line_limit ≡ false) × (line_limit < length line))) → kept_line line ≡ None
     by_test (inl t) = absurd (omega (arith, h, t.1))
     by_test (inr t) = ap (λ (short : Bool). if short then Some line else None) t.0
 
 -- a line is short, or long
-line_cases : (line : List ℕ) → ((length line ≤ 4096) × (kept_line line ≡ Some line)) ⊎ ((4096 < length line) × (kept_line line ≡ None))
-line_cases line = by_test (leb_tells (length line) 4096)
+line_cases : (line : List ℕ) → ((length line ≤ line_limit) × (kept_line line ≡ Some line)) ⊎ ((line_limit < length line) × (kept_line line ≡ None))
+line_cases line = by_test (leb_tells (length line) line_limit)
   where
-    by_test : (((nat_le (length line) 4096 ≡ true) × (length line ≤ 4096)) ⊎ ((nat_le (length line) 4096 ≡ false) × (4096 < length line))) → ((length line ≤ 4096) × (kept_line line ≡ Some line)) ⊎ ((4096 < length line) × (kept_line line ≡ None))
+    by_test : (((nat_le (length line) line_limit ≡ true) × (length line ≤ line_limit)) ⊎ ((nat_le (length line) line_limit ≡ false) × (line_limit < length line))) → ((length line ≤ line_limit) × (kept_line line ≡ Some line)) ⊎ ((line_limit < length line) × (kept_line line ≡ None))
     by_test (inl t) = inl (t.1, kept_line-short line t.1)
     by_test (inr t) = inr (t.1, kept_line-long line t.1)
 
@@ -66,22 +67,22 @@ pub IsOneLine-grown : (kept : Option (List ℕ)) (p : List ℕ) → IsOneLine ke
 IsOneLine-grown None p one other = tt
 IsOneLine-grown (Some bytes) p one other = by_length (line_cases (bytes ++ p))
   where
-    by_length : (((length (bytes ++ p) ≤ 4096) × (kept_line (bytes ++ p) ≡ Some (bytes ++ p))) ⊎ ((4096 < length (bytes ++ p)) × (kept_line (bytes ++ p) ≡ None))) → IsOneLine (kept_line (bytes ++ p))
+    by_length : (((length (bytes ++ p) ≤ line_limit) × (kept_line (bytes ++ p) ≡ Some (bytes ++ p))) ⊎ ((line_limit < length (bytes ++ p)) × (kept_line (bytes ++ p) ≡ None))) → IsOneLine (kept_line (bytes ++ p))
     by_length (inl t) = let P : Option (List ℕ) → Type 0 = IsOneLine in subst P (sym t.1) (OnePart-append bytes p one.0 other, t.0)
     by_length (inr t) = let P : Option (List ℕ) → Type 0 = IsOneLine in subst P (sym t.1) tt
 
 -- a line that is too long, whatever the text behind it
-going_on-long : (n : ℕ) (line text : List ℕ) → OnePart line → 4096 < length line → numbered n (lines (line ++ text)) ≡ going_on n None text
+going_on-long : (n : ℕ) (line text : List ℕ) → OnePart line → line_limit < length line → numbered n (lines (line ++ text)) ≡ going_on n None text
 going_on-long n line text one long =
     let some = parts-some (is_byte 10) text in
     let q : List ℕ = some.0 in
     let qs : List (List ℕ) = some.1 in
-    let whole : 4096 < length (line ++ q) = omega (arith, long, length-append line q) in
+    let whole : line_limit < length (line ++ q) = omega (arith, long, length-append line q) in
     ap (λ (ps : List (List ℕ)). numbered n (without_empty_last ps)) (parts-longer line text q qs one some.2)
     ∙ first_long (line ++ q) qs whole
     ∙ sym (ap (λ (ps : List (List ℕ)). record { number = n; kept = None } ∷ numbered (n + 1) (without_empty_last (behind_first ps))) some.2)
   where
-    first_long : (first : List ℕ) (rest : List (List ℕ)) → 4096 < length first → numbered n (without_empty_last (first ∷ rest)) ≡ record { number = n; kept = None } ∷ numbered (n + 1) (without_empty_last rest)
+    first_long : (first : List ℕ) (rest : List (List ℕ)) → line_limit < length first → numbered n (without_empty_last (first ∷ rest)) ≡ record { number = n; kept = None } ∷ numbered (n + 1) (without_empty_last rest)
     first_long [] rest h = absurd (omega (arith, h))
     first_long (b ∷ bs) [] h = ap (λ (kept : Option (List ℕ)). record { number = n; kept = kept } ∷ []) (kept_line-long (b ∷ bs) h)
     first_long (b ∷ bs) (r ∷ rest) h = ap (λ (kept : Option (List ℕ)). record { number = n; kept = kept } ∷ numbered (n + 1) (without_empty_last (r ∷ rest))) (kept_line-long (b ∷ bs) h)
@@ -95,7 +96,7 @@ going_on-grown n None p text one other =
 going_on-grown n (Some bytes) p text one other =
     ap (λ (all : List ℕ). numbered n (lines all)) (sym (append_assoc bytes p text)) ∙ by_length (line_cases (bytes ++ p))
   where
-    by_length : (((length (bytes ++ p) ≤ 4096) × (kept_line (bytes ++ p) ≡ Some (bytes ++ p))) ⊎ ((4096 < length (bytes ++ p)) × (kept_line (bytes ++ p) ≡ None))) → numbered n (lines ((bytes ++ p) ++ text)) ≡ going_on n (kept_line (bytes ++ p)) text
+    by_length : (((length (bytes ++ p) ≤ line_limit) × (kept_line (bytes ++ p) ≡ Some (bytes ++ p))) ⊎ ((line_limit < length (bytes ++ p)) × (kept_line (bytes ++ p) ≡ None))) → numbered n (lines ((bytes ++ p) ++ text)) ≡ going_on n (kept_line (bytes ++ p)) text
     by_length (inl t) = sym (ap (λ (kept : Option (List ℕ)). going_on n kept text) t.1)
     by_length (inr t) =
         going_on-long n (bytes ++ p) text (OnePart-append bytes p one.0 other) t.0

@@ -1,10 +1,11 @@
 -- How lines come from the pieces of a text.
 use Rattle.std.specs.Prelude.{◌≡◌, ℕ, ◌+◌, Bool, true, false, List, [], ◌∷◌, ◌++◌, Option, None, Some, length, drop, nat_le, if◌then◌else◌}
+use Rattle.model_numbers.specs.Numbers.{line_limit}
 use Rattle.script_lang.specs.Parts.{parts, is_byte, without_empty_last, lines}
 
 -- a line of at most 4,096 bytes is kept, and of a longer one none
 abbrev pub kept_line : List ℕ → Option (List ℕ)
-kept_line line = if nat_le (length line) 4096 then Some line else None
+kept_line line = if nat_le (length line) line_limit then Some line else None
 
 -- a line that comes: its number, and its bytes, or none where it is too long
 pub record FedLine : Type 0 where

@@ -1,6 +1,7 @@
 -- The forms of words: names of each sort, kinds, values, and a field with its kind.
 use Rattle.std.specs.Prelude.{ℕ, ℤ, Bool, true, false, not, ◌&&◌, ◌||◌, List, [], ◌∷◌, Option, None, Some, codes, length, nat_eq, nat_le}
 use Rattle.std.specs.List.{find, list_all}
+use Rattle.model_numbers.specs.Numbers.{name_limit}
 use Rattle.class_layout.specs.declared.kind.Kind.{Kind}
 use Rattle.class_layout.specs.declared.kind.Kind.TheVariants.{Ref, Boolean, Byte, Char, Short, Int, Long}
 use Rattle.class_layout.specs.declared.kind.FieldDecl.{FieldDecl}
@@ -41,7 +42,7 @@ is_spelled first later (b ∷ bs) = first b && list_all later bs
 
 -- a name has at most 128 bytes
 abbrev pub is_short : List ℕ → Bool
-is_short word = nat_le (length word) 128
+is_short word = nat_le (length word) name_limit
 
 -- a name of a root or of a process
 abbrev pub is_root_name : List ℕ → Bool

@@ -6,11 +6,9 @@ ghost use Rattle.script_lang.specs.FedLines.{fed_line};
 ghost use Rattle.script_lang.specs.FeedState.{IsOneLine};
 
 use crate::parts::cut;
+use model_numbers::LINE_LIMIT;
 use std::alloc::{AllocError, Global};
 use std::marker::Model;
-
-/// The greatest length of a line, in bytes, without its line feed.
-const LONGEST_LINE: usize = 4_096;
 
 /// The bytes of a line so far, or none of them once they are more than a line may have.
 #[derive(Debug, Drop)]
@@ -21,13 +19,14 @@ struct KeptBytes {
 
 impl Model for KeptBytes {
     ghost use Rattle.std.specs.Prelude.{◌≤◌, ℕ, List, Option, length, vec_capacity};
+    ghost use Rattle.model_numbers.specs.Numbers.{line_limit};
     ghost use Rattle.script_lang.specs.FeedState.{bytes_unless};
 
     ghost Value = { Option (List ℕ) };
 
     ghost view = { λ s. bytes_unless s.is_long s.bytes.items };
 
-    ghost invariant = { λ s. (length s.bytes.items ≤ 4096) × (4096 ≤ vec_capacity s.bytes) };
+    ghost invariant = { λ s. (length s.bytes.items ≤ line_limit) × (line_limit ≤ vec_capacity s.bytes) };
 }
 
 impl KeptBytes {
@@ -36,7 +35,7 @@ impl KeptBytes {
         ensures { IfOk result (λ kept. kept ≡ Some []) }
     {
         Ok(KeptBytes {
-            bytes: Vec::with_capacity(alloc, LONGEST_LINE)?,
+            bytes: Vec::with_capacity(alloc, LINE_LIMIT)?,
             is_long: false,
         })
     }
@@ -45,7 +44,7 @@ impl KeptBytes {
     fn grow(&mut self, more: &[u8])
         ensures { self.new ≡ grown self.old more.now }
     {
-        if self.is_long || more.len() > LONGEST_LINE - self.bytes.len() {
+        if self.is_long || more.len() > LINE_LIMIT - self.bytes.len() {
             self.is_long = true;
             return;
         }

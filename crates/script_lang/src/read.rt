@@ -1,4 +1,5 @@
 ghost use Rattle.std.specs.Prelude.{◌≡◌, ◌≤◌, length, IfOk, IfSome, is_some};
+ghost use Rattle.model_numbers.specs.Numbers.{line_limit};
 ghost use Rattle.heap_world.specs.Formed.{HasFewFields};
 ghost use Rattle.script_lang.specs.Forms.{decls_of};
 ghost use Rattle.script_lang.specs.Grammar.{class_line, verb_in, entries, begins_with_hash, line_meaning};
@@ -63,7 +64,7 @@ fn read_fields(alloc: Global, words: Words<'_>) -> Result<FieldList, LineError>
 }
 
 fn class_verb(alloc: Global, words: Words<'_>) -> Result<Verb, LineError>
-    requires { length words ≤ 4096 }
+    requires { length words ≤ line_limit }
     ensures meaning { ReadsVerb result (class_line words.entry) }
     ensures few_fields { IfOk result HasFewFields }
 {
@@ -85,7 +86,7 @@ fn class_verb(alloc: Global, words: Words<'_>) -> Result<Verb, LineError>
 }
 
 fn read_verb(alloc: Global, word: &[u8], args: Words<'_>) -> Result<Verb, LineError>
-    requires { length args ≤ 4096 }
+    requires { length args ≤ line_limit }
     ensures meaning { ReadsVerb result (verb_in entries word.now args.entry) }
     ensures few_fields { IfOk result HasFewFields }
 {
@@ -107,7 +108,7 @@ fn is_remark(word: &[u8]) -> bool
 /// words, or whose first word begins with `#`. `Bad` comes exactly where the line is neither that nor a command, and
 /// `OutOfMemory` for a class line alone.
 pub fn read_line(alloc: Global, bytes: &[u8]) -> Result<Option<Command>, LineError>
-    requires { length bytes.now ≤ 4096 }
+    requires { length bytes.now ≤ line_limit }
     ensures meaning { ReadsLine result (line_meaning bytes.now) }
     ensures few_fields { IfOk result (λ line. IfSome line (λ command. HasFewFields command.verb)) }
 {
