@@ -1,3 +1,4 @@
 pub mod BitsLemmas
+pub mod OverLemmas
 pub mod SetLemmas
 pub mod SpreadLemmas

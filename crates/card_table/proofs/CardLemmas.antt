@@ -1,11 +1,13 @@
 -- Laws of card tables, and what changes of the bits do to the cards.
-use Rattle.std.proofs.Common.{◌≡◌, ℕ, ◌+◌, ◌-◌, ◌*◌, ◌/◌, ◌%◌, ◌^◌, ◌<◌, ◌≤◌, Bool, ◌&&◌, ◌||◌, ◌==◌, ◌⊎◌, nat_le, nat_lt, IsTrue, IsFalse, sym, ap, ◌∙◌, subst, inl, inr, arith, eq-eqb, eqb-true, ne_eqb, leb-true, ltb-true, le-leb, lt-ltb}
-use Rattle.std.proofs.lemmas.Bool.{cases_lt, cases_eq, false≢true, false_from_ne_true, and_parts, or_cases}
+use Rattle.std.proofs.Common.{◌≡◌, ℕ, ◌+◌, ◌-◌, ◌*◌, ◌/◌, ◌%◌, ◌^◌, ◌<◌, ◌≤◌, Bool, ◌&&◌, ◌||◌, ◌==◌, ◌⊎◌, nat_le, nat_lt, IsTrue, IsFalse, sym, ap, ◌∙◌, subst, inl, inr, arith, eq-eqb, eqb-true, leb-true, ltb-true, le-leb, lt-ltb}
+use Rattle.std.proofs.lemmas.Bool.{cases_lt, false_from_ne_true, and_parts}
 use Rattle.model_numbers.specs.Numbers.{card_bytes}
 use Rattle.bit_set.specs.Bits.{Bits, room, is_member}
 use Rattle.bit_set.specs.Tests.{NoneFrom, IsLeastFrom}
+use Rattle.bit_set.specs.Spans.{AreOver}
+use Rattle.bit_set.proofs.OverLemmas.{Places, has-insert, has-grow, has-empty, AreOver-insert, AreOver-grow, AreOver-empty}
 use Rattle.bit_set.proofs.SpreadLemmas.{Spreads, IsFirstPlace, IsLeastFrom-place, NoneFrom-place}
-use Rattle.card_table.specs.CardSet.{CardSet, card_of, is_dirty, is_dirty_start, first_card, IsInSpan, IsWellPlaced, IsSound}
+use Rattle.card_table.specs.CardSet.{CardSet, card_of, is_dirty, is_dirty_start, first_card, IsInSpan, IsWellPlaced}
 
 -- ---- laws
 
@@ -43,6 +45,10 @@ card_cases c card =
       ]
     ]
 
+-- the cards of a table, and the bit of each
+pub dirty_places : (c : CardSet) → Places (HasCard c) (λ card. card - card_of c.start) (is_member c.bits) (is_dirty c)
+dirty_places c = record { at = is_dirty-card c; off = is_dirty-off c }
+
 -- a dirty card starts at the address, and where a card is dirty, one starts at its start
 pub dirty_start_parts : (c : CardSet) (at : ℕ) → IsTrue (is_dirty_start c at) → (at % card_bytes ≡ 0) × IsTrue (is_dirty c (card_of at))
 unfolding is_dirty_start
@@ -58,7 +64,7 @@ is_dirty_start-at c at aligned = ap (λ x. x && is_dirty c (card_of at)) (eq-eqb
 abbrev pub cards : ℕ → ℕ → Bits → CardSet
 cards start span bits = record { start = start; span = span; bits = bits }
 
-module _ (start span : ℕ) (bits : Bits) (sound : IsSound start span bits) where
+module _ (start span : ℕ) (bits : Bits) (sound : AreOver card_bytes start span bits) where
   pub well_placed : IsWellPlaced (cards start span bits)
   well_placed = record {
     aligned = sound.aligned;
@@ -116,78 +122,46 @@ module _ (start span : ℕ) (bits : Bits) (sound : IsSound start span bits) wher
   -- ---- steps
 
   module _ (after : Bits) where
-    pub IsSound-dirty : (n : ℕ) → IsInSpan (cards start span bits) n → room after ≡ room bits
-        → ((q : ℕ) → is_member after q ≡ (q == (n - start) / card_bytes || is_member bits q)) → IsSound start span after
-    IsSound-dirty n h same_room member = record {
-      aligned = sound.aligned;
-      bounded = sound.bounded;
-      roomy = omega (arith, sound.roomy);
-      inside = λ k set. elim (or_cases (k == (n - start) / card_bytes) (is_member bits k) (sym (member k) ∙ set)) [
-        | inl same ↦ omega (arith, eqb-true k ((n - start) / card_bytes) same, h.from, h.below)
-        | inr was ↦ sound.inside k was
-      ];
-    }
+    pub AreOver-dirty : (n : ℕ) → IsInSpan (cards start span bits) n → room after ≡ room bits
+        → ((q : ℕ) → is_member after q ≡ (q == (n - start) / card_bytes || is_member bits q)) → AreOver card_bytes start span after
+    AreOver-dirty n h = AreOver-insert card_bytes start span bits after sound ((n - start) / card_bytes) (omega (arith, h.from, h.below))
 
     pub is_dirty-dirty : (n : ℕ) → IsInSpan (cards start span bits) n
         → ((q : ℕ) → is_member after q ≡ (q == (n - start) / card_bytes || is_member bits q))
         → (card : ℕ) → is_dirty (cards start span after) card ≡ (card == card_of n || is_dirty (cards start span bits) card)
-    is_dirty-dirty n h member card =
-        elim (card_cases (cards start span bits) card)
-        as (λ _. is_dirty (cards start span after) card ≡ (card == card_of n || is_dirty (cards start span bits) card)) [
-          | inl here ↦
-              let same : (card == card_of n) ≡ (card - card_of start == (n - start) / card_bytes) = elim (cases_eq card (card_of n)) [
-                | inl e ↦ eq-eqb card (card_of n) e ∙ sym (eq-eqb (card - card_of start) ((n - start) / card_bytes) (omega (arith, sound.aligned, h.from)))
-                | inr other ↦ ne_eqb card (card_of n) other ∙ sym (ne_eqb (card - card_of start) ((n - start) / card_bytes)
-                    (λ e. other (omega (arith, sound.aligned, here.from, h.from))))
-              ] in
-              is_dirty-card (cards start span after) card (record { from = here.from; below = here.below })
-              ∙ member (card - card_of start)
-              ∙ ap (λ x. x || is_member bits (card - card_of start)) (sym same)
-              ∙ ap (λ x. (card == card_of n) || x) (sym (is_dirty-card (cards start span bits) card here))
-          | inr off ↦
-              is_dirty-off (cards start span after) card (λ p. off (record { from = p.from; below = p.below }))
-              ∙ sym (ap (λ x. x || is_dirty (cards start span bits) card) (ne_eqb card (card_of n)
-              (λ e. off (record { from = omega (arith, h.from); below = omega (arith, h.below) })))
-              ∙ is_dirty-off (cards start span bits) card off)
-        ]
+    is_dirty-dirty n h member =
+        has-insert (HasCard (cards start span bits)) (λ card. card - card_of start) (is_member bits) (is_member after) (is_dirty (cards start span bits))
+        (is_dirty (cards start span after)) (card_cases (cards start span bits)) (dirty_places (cards start span bits)) later (card_of n)
+        (record { from = omega (arith, h.from); below = omega (arith, h.below) })
+        (λ card here e. omega (arith, here.from, h.from, e)) (λ k. member k ∙ ap (λ m. (k == m) || is_member bits k) bit)
+      where
+        bit : (n - start) / card_bytes ≡ card_of n - card_of start
+        bit = omega (arith, sound.aligned, h.from)
+
+        later : Places (HasCard (cards start span bits)) (λ card. card - card_of start) (is_member after) (is_dirty (cards start span after))
+        later = record {
+          at = λ card p. is_dirty-card (cards start span after) card (record { from = p.from; below = p.below });
+          off = λ card off. is_dirty-off (cards start span after) card (λ p. off (record { from = p.from; below = p.below }));
+        }
 
     module _ (longer : ℕ) (more : span ≤ longer) (same : (q : ℕ) → is_member after q ≡ is_member bits q) where
-      pub IsSound-grow : start + longer ≤ 2 ^ 32 → longer ≤ card_bytes * room after → IsSound start longer after
-      IsSound-grow bounded roomy = record {
-        aligned = sound.aligned;
-        bounded = bounded;
-        roomy = roomy;
-        inside = λ k h. omega (arith, sound.inside k (sym (same k) ∙ h));
-      }
+      pub AreOver-longer : start + longer ≤ 2 ^ 32 → longer ≤ card_bytes * room after → AreOver card_bytes start longer after
+      AreOver-longer bounded roomy = AreOver-grow card_bytes start span bits after sound longer more bounded roomy same
 
       pub is_dirty-grow : (card : ℕ) → is_dirty (cards start longer after) card ≡ is_dirty (cards start span bits) card
-      is_dirty-grow card =
-          elim (card_cases (cards start longer after) card)
-          as (λ _. is_dirty (cards start longer after) card ≡ is_dirty (cards start span bits) card) [
-            | inl here ↦ is_dirty-card (cards start longer after) card here ∙ same (card - card_of start)
-                ∙ elim (cases_lt (card_bytes * card) (start + span)) as (λ _. is_member bits (card - card_of start) ≡ is_dirty (cards start span bits) card) [
-                  | inl lt ↦ sym (is_dirty-card (cards start span bits) card (record { from = here.from; below = lt }))
-                  | inr ge ↦
-                      false_from_ne_true (is_member bits (card - card_of start))
-                      (λ h. absurd (omega (arith, sound.aligned, here.from, sound.inside (card - card_of start) h)))
-                      ∙ sym (is_dirty-off (cards start span bits) card (λ p. absurd (omega (arith, p.below))))
-                ]
-            | inr off ↦
-                is_dirty-off (cards start longer after) card off
-                ∙ sym (is_dirty-off (cards start span bits) card (λ p. off (record { from = p.from; below = omega (arith, p.below) })))
-          ]
+      is_dirty-grow =
+          has-grow (HasCard (cards start span bits)) (HasCard (cards start longer after)) (λ card. card - card_of start) (is_member bits) (is_member after)
+          (is_dirty (cards start span bits)) (is_dirty (cards start longer after)) (card_cases (cards start span bits))
+          (card_cases (cards start longer after)) (dirty_places (cards start span bits)) (dirty_places (cards start longer after))
+          (λ card p. record { from = p.from; below = omega (arith, p.below) }) same
+          (λ card here new h. new (record { from = here.from; below = omega (arith, sound.aligned, here.from, sound.inside (card - card_of start) h) }))
 
 -- bits with no member
 module _ (start span : ℕ) (bits : Bits) (none : (q : ℕ) → IsFalse (is_member bits q)) where
-  pub IsSound-clean : start % card_bytes ≡ 0 → start + span ≤ 2 ^ 32 → span ≤ card_bytes * room bits → IsSound start span bits
-  IsSound-clean aligned bounded roomy = record {
-    aligned = aligned;
-    bounded = bounded;
-    roomy = roomy;
-    inside = λ k h. absurd (false≢true (sym (none k) ∙ h));
-  }
+  pub AreOver-clean : start % card_bytes ≡ 0 → start + span ≤ 2 ^ 32 → span ≤ card_bytes * room bits → AreOver card_bytes start span bits
+  AreOver-clean = AreOver-empty card_bytes start span bits none
 
   pub is_dirty-clean : (card : ℕ) → IsFalse (is_dirty (cards start span bits) card)
-  is_dirty-clean card =
-      false_from_ne_true (is_dirty (cards start span bits) card)
-      (λ h. false≢true (sym (none (card - card_of start)) ∙ (dirty_parts (cards start span bits) card h).1))
+  is_dirty-clean =
+      has-empty (HasCard (cards start span bits)) (λ card. card - card_of start) (is_member bits) (is_dirty (cards start span bits))
+      (card_cases (cards start span bits)) (dirty_places (cards start span bits)) none

@@ -1,7 +1,7 @@
 -- A card table: which cards are dirty, in a span of addresses. Card k has the 1,024 addresses from 1024 * k on.
 use Rattle.std.specs.Prelude.{◌≡◌, ℕ, ◌+◌, ◌-◌, ◌*◌, ◌/◌, ◌%◌, ◌^◌, ◌<◌, ◌≤◌, Bool, ◌&&◌, ◌==◌, nat_le, nat_lt, IsTrue}
 use Rattle.model_numbers.specs.Numbers.{card_bytes}
-use Rattle.bit_set.specs.Bits.{Bits, room, is_member}
+use Rattle.bit_set.specs.Bits.{Bits, is_member}
 
 -- where the span starts, how many bytes it has, and the bits, one for each card
 pub record CardSet : Type 0 where
@@ -39,10 +39,3 @@ pub record IsWellPlaced (c : CardSet) : Type 0 where
   pub aligned : c.start % card_bytes ≡ 0
   pub bounded : c.start + c.span ≤ 2 ^ 32
   pub cards : (card : ℕ) → IsTrue (is_dirty c card) → IsInSpan c (card_bytes * card)
-
--- what a card table keeps: the bits have room for the span, and none is set past it
-pub record IsSound (start span : ℕ) (bits : Bits) : Type 0 where
-  pub aligned : start % card_bytes ≡ 0
-  pub bounded : start + span ≤ 2 ^ 32
-  pub roomy : span ≤ card_bytes * room bits
-  pub inside : (k : ℕ) → IsTrue (is_member bits k) → card_bytes * k < span

@@ -13,13 +13,15 @@ pub struct Cards {
 }
 
 impl Model for Cards {
-    ghost use Rattle.card_table.specs.CardSet.{CardSet, IsSound};
+    ghost use Rattle.card_table.specs.CardSet.{CardSet};
+    ghost use Rattle.bit_set.specs.Spans.{AreOver};
+    ghost use Rattle.model_numbers.specs.Numbers.{card_bytes};
 
     ghost Value = { CardSet };
 
     ghost view = { λ c. record { start = c.from; span = c.bytes; bits = c.bits } };
 
-    ghost invariant = { λ c. IsSound c.from c.bytes c.bits };
+    ghost invariant = { λ c. AreOver card_bytes c.from c.bytes c.bits };
 }
 
 impl Cards {

@@ -1,10 +1,12 @@
 -- Laws of mark bitmaps, and what changes of the bits do to the marks.
-use Rattle.std.proofs.Common.{◌≡◌, ℕ, ◌+◌, ◌-◌, ◌*◌, ◌/◌, ◌%◌, ◌^◌, ◌<◌, ◌≤◌, Bool, ◌&&◌, ◌||◌, ◌==◌, ◌⊎◌, nat_le, nat_lt, IsTrue, IsFalse, sym, ap, ◌∙◌, subst, inl, inr, arith, eq-eqb, eqb-true, ne_eqb, leb-true, ltb-true, le-leb, lt-ltb}
-use Rattle.std.proofs.lemmas.Bool.{cases_lt, cases_eq, false≢true, false_from_ne_true, and_parts, or_cases}
+use Rattle.std.proofs.Common.{◌≡◌, ℕ, ◌+◌, ◌-◌, ◌*◌, ◌/◌, ◌%◌, ◌^◌, ◌<◌, ◌≤◌, Bool, ◌&&◌, ◌||◌, ◌==◌, ◌⊎◌, nat_le, nat_lt, IsTrue, IsFalse, sym, ap, ◌∙◌, subst, inl, inr, arith, eq-eqb, eqb-true, leb-true, ltb-true, le-leb, lt-ltb}
+use Rattle.std.proofs.lemmas.Bool.{cases_lt, cases_eq, false_from_ne_true, and_parts}
 use Rattle.bit_set.specs.Bits.{Bits, room, is_member}
+use Rattle.bit_set.specs.Spans.{AreOver}
+use Rattle.bit_set.proofs.OverLemmas.{Places, has-insert, has-grow, has-empty, AreOver-insert, AreOver-grow, AreOver-empty}
 use Rattle.bit_set.proofs.SpreadLemmas.{Spreads, IsFirstPlace, IsLeastFrom-place, NoneFrom-place, IsGreatestBelow-place, NoneBelow-place}
 use Rattle.bit_set.specs.Tests.{NoneFrom, NoneBelow, IsLeastFrom, IsGreatestBelow}
-use Rattle.mark_bitmap.specs.Marks.{Marks, is_marked, first_place, IsPlace, IsWellPlaced, IsSound}
+use Rattle.mark_bitmap.specs.Marks.{Marks, is_marked, first_place, IsPlace, IsWellPlaced}
 
 -- ---- laws
 
@@ -43,11 +45,15 @@ place_cases b at =
       | inr odd ↦ inr (λ p. odd p.aligned)
     ]
 
+-- the places of a bitmap, and the bit of each
+pub marked_places : (b : Marks) → Places (IsPlace b) (λ at. (at - b.start) / 8) (is_member b.bits) (is_marked b)
+marked_places b = record { at = is_marked-place b; off = is_marked-off b }
+
 -- a bitmap with this span and these bits
 abbrev pub marks : ℕ → ℕ → Bits → Marks
 marks start span bits = record { start = start; span = span; bits = bits }
 
-module _ (start span : ℕ) (bits : Bits) (sound : IsSound start span bits) where
+module _ (start span : ℕ) (bits : Bits) (sound : AreOver 8 start span bits) where
   pub well_placed : IsWellPlaced (marks start span bits)
   well_placed = record {
     aligned = sound.aligned;
@@ -100,75 +106,46 @@ module _ (start span : ℕ) (bits : Bits) (sound : IsSound start span bits) wher
   -- ---- steps
 
   module _ (after : Bits) where
-    pub IsSound-set : (n : ℕ) → IsPlace (marks start span bits) n → room after ≡ room bits
-        → ((q : ℕ) → is_member after q ≡ (q == (n - start) / 8 || is_member bits q)) → IsSound start span after
-    IsSound-set n place same_room member = record {
-      aligned = sound.aligned;
-      bounded = sound.bounded;
-      roomy = omega (arith, sound.roomy);
-      inside = λ k h. elim (or_cases (k == (n - start) / 8) (is_member bits k) (sym (member k) ∙ h)) [
-        | inl same ↦ omega (arith, eqb-true k ((n - start) / 8) same, place.from, place.below)
-        | inr was ↦ sound.inside k was
-      ];
-    }
+    pub AreOver-set : (n : ℕ) → IsPlace (marks start span bits) n → room after ≡ room bits
+        → ((q : ℕ) → is_member after q ≡ (q == (n - start) / 8 || is_member bits q)) → AreOver 8 start span after
+    AreOver-set n place = AreOver-insert 8 start span bits after sound ((n - start) / 8) (omega (arith, place.from, place.below))
 
     pub is_marked-set : (n : ℕ) → IsPlace (marks start span bits) n
         → ((q : ℕ) → is_member after q ≡ (q == (n - start) / 8 || is_member bits q))
         → (q : ℕ) → is_marked (marks start span after) q ≡ (q == n || is_marked (marks start span bits) q)
-    is_marked-set n place member q =
-        elim (place_cases (marks start span bits) q) as (λ _. is_marked (marks start span after) q ≡ (q == n || is_marked (marks start span bits) q)) [
-          | inl here ↦
-              let same : (q == n) ≡ ((q - start) / 8 == (n - start) / 8) = elim (cases_eq q n) [
-                | inl e ↦ eq-eqb q n e ∙ sym (eq-eqb ((q - start) / 8) ((n - start) / 8) (ap (λ x. (x - start) / 8) e))
-                | inr other ↦ ne_eqb q n other ∙ sym (ne_eqb ((q - start) / 8) ((n - start) / 8)
-                    (λ e. other (omega (arith, sound.aligned, here.aligned, here.from, place.aligned, place.from))))
-              ] in
-              is_marked-place (marks start span after) q (record { aligned = here.aligned; from = here.from; below = here.below })
-              ∙ member ((q - start) / 8)
-              ∙ ap (λ x. x || is_member bits ((q - start) / 8)) (sym same)
-              ∙ ap (λ x. (q == n) || x) (sym (is_marked-place (marks start span bits) q here))
-          | inr off ↦
-              is_marked-off (marks start span after) q (λ p. off (record { aligned = p.aligned; from = p.from; below = p.below }))
-              ∙ sym (ap (λ x. x || is_marked (marks start span bits) q) (ne_eqb q n (λ e. off (subst (IsPlace (marks start span bits)) (sym e) place)))
-              ∙ is_marked-off (marks start span bits) q off)
-        ]
+    is_marked-set n place =
+        has-insert (IsPlace (marks start span bits)) (λ q. (q - start) / 8) (is_member bits) (is_member after) (is_marked (marks start span bits))
+        (is_marked (marks start span after)) (place_cases (marks start span bits)) (marked_places (marks start span bits)) later n place
+        (λ q here e. omega (arith, sound.aligned, here.aligned, here.from, place.aligned, place.from, e))
+      where
+        later : Places (IsPlace (marks start span bits)) (λ q. (q - start) / 8) (is_member after) (is_marked (marks start span after))
+        later = record {
+          at = λ q p. is_marked-place (marks start span after) q (record { aligned = p.aligned; from = p.from; below = p.below });
+          off = λ q off. is_marked-off (marks start span after) q (λ p. off (record { aligned = p.aligned; from = p.from; below = p.below }));
+        }
 
     module _ (longer : ℕ) (more : span ≤ longer) (same : (q : ℕ) → is_member after q ≡ is_member bits q) where
-      pub IsSound-grow : start + longer ≤ 2 ^ 32 → longer ≤ 8 * room after → IsSound start longer after
-      IsSound-grow bounded roomy = record {
-        aligned = sound.aligned;
-        bounded = bounded;
-        roomy = roomy;
-        inside = λ k h. omega (arith, sound.inside k (sym (same k) ∙ h));
-      }
+      pub AreOver-longer : start + longer ≤ 2 ^ 32 → longer ≤ 8 * room after → AreOver 8 start longer after
+      AreOver-longer bounded roomy = AreOver-grow 8 start span bits after sound longer more bounded roomy same
 
       pub is_marked-grow : (q : ℕ) → is_marked (marks start longer after) q ≡ is_marked (marks start span bits) q
-      is_marked-grow q =
-          elim (place_cases (marks start longer after) q) as (λ _. is_marked (marks start longer after) q ≡ is_marked (marks start span bits) q) [
-            | inl here ↦ is_marked-place (marks start longer after) q here ∙ same ((q - start) / 8)
-                ∙ elim (cases_lt q (start + span)) as (λ _. is_member bits ((q - start) / 8) ≡ is_marked (marks start span bits) q) [
-                  | inl lt ↦ sym (is_marked-place (marks start span bits) q (record { aligned = here.aligned; from = here.from; below = lt }))
-                  | inr ge ↦
-                      false_from_ne_true (is_member bits ((q - start) / 8))
-                      (λ h. absurd (omega (arith, sound.aligned, here.aligned, here.from, sound.inside ((q - start) / 8) h)))
-                      ∙ sym (is_marked-off (marks start span bits) q (λ p. absurd (omega (arith, p.below))))
-                ]
-            | inr off ↦
-                is_marked-off (marks start longer after) q off
-                ∙ sym (is_marked-off (marks start span bits) q (λ p. off (record { aligned = p.aligned; from = p.from; below = omega (arith, p.below) })))
-          ]
+      is_marked-grow =
+          has-grow (IsPlace (marks start span bits)) (IsPlace (marks start longer after)) (λ q. (q - start) / 8) (is_member bits) (is_member after)
+          (is_marked (marks start span bits)) (is_marked (marks start longer after)) (place_cases (marks start span bits))
+          (place_cases (marks start longer after)) (marked_places (marks start span bits)) (marked_places (marks start longer after))
+          (λ q p. record { aligned = p.aligned; from = p.from; below = omega (arith, p.below) }) same
+          (λ q here new h. new (record {
+            aligned = here.aligned;
+            from = here.from;
+            below = omega (arith, sound.aligned, here.aligned, here.from, sound.inside ((q - start) / 8) h);
+          }))
 
 -- bits with no member
 module _ (start span : ℕ) (bits : Bits) (none : (q : ℕ) → IsFalse (is_member bits q)) where
-  pub IsSound-empty : start % 8 ≡ 0 → start + span ≤ 2 ^ 32 → span ≤ 8 * room bits → IsSound start span bits
-  IsSound-empty aligned bounded roomy = record {
-    aligned = aligned;
-    bounded = bounded;
-    roomy = roomy;
-    inside = λ k h. absurd (false≢true (sym (none k) ∙ h));
-  }
+  pub AreOver-none : start % 8 ≡ 0 → start + span ≤ 2 ^ 32 → span ≤ 8 * room bits → AreOver 8 start span bits
+  AreOver-none = AreOver-empty 8 start span bits none
 
   pub is_marked-empty : (q : ℕ) → IsFalse (is_marked (marks start span bits) q)
-  is_marked-empty q =
-      false_from_ne_true (is_marked (marks start span bits) q)
-      (λ h. false≢true (sym (none ((q - start) / 8)) ∙ (marked_parts (marks start span bits) q h).1))
+  is_marked-empty =
+      has-empty (IsPlace (marks start span bits)) (λ q. (q - start) / 8) (is_member bits) (is_marked (marks start span bits))
+      (place_cases (marks start span bits)) (marked_places (marks start span bits)) none

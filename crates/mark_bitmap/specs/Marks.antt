@@ -1,6 +1,6 @@
 -- A mark bitmap: a set of addresses that are multiples of 8, in a span of addresses.
-use Rattle.std.specs.Prelude.{◌≡◌, ℕ, ◌+◌, ◌-◌, ◌*◌, ◌/◌, ◌%◌, ◌^◌, ◌<◌, ◌≤◌, Bool, ◌&&◌, ◌==◌, nat_le, nat_lt, IsTrue}
-use Rattle.bit_set.specs.Bits.{Bits, room, is_member}
+use Rattle.std.specs.Prelude.{◌≡◌, ℕ, ◌+◌, ◌-◌, ◌/◌, ◌%◌, ◌^◌, ◌<◌, ◌≤◌, Bool, ◌&&◌, ◌==◌, nat_le, nat_lt, IsTrue}
+use Rattle.bit_set.specs.Bits.{Bits, is_member}
 
 -- where the span starts, how many bytes it has, and the bits, one for each 8 bytes
 pub record Marks : Type 0 where
@@ -31,10 +31,3 @@ pub record IsWellPlaced (b : Marks) : Type 0 where
   pub aligned : b.start % 8 ≡ 0
   pub bounded : b.start + b.span ≤ 2 ^ 32
   pub places : (at : ℕ) → IsTrue (is_marked b at) → IsPlace b at
-
--- what a bitmap keeps: the bits have room for the span, and none is set past it
-pub record IsSound (start span : ℕ) (bits : Bits) : Type 0 where
-  pub aligned : start % 8 ≡ 0
-  pub bounded : start + span ≤ 2 ^ 32
-  pub roomy : span ≤ 8 * room bits
-  pub inside : (k : ℕ) → IsTrue (is_member bits k) → 8 * k < span

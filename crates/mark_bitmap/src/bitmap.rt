@@ -16,13 +16,14 @@ pub struct Bitmap {
 }
 
 impl Model for Bitmap {
-    ghost use Rattle.mark_bitmap.specs.Marks.{Marks, IsSound};
+    ghost use Rattle.mark_bitmap.specs.Marks.{Marks};
+    ghost use Rattle.bit_set.specs.Spans.{AreOver};
 
     ghost Value = { Marks };
 
     ghost view = { λ b. record { start = b.from; span = b.bytes; bits = b.bits } };
 
-    ghost invariant = { λ b. IsSound b.from b.bytes b.bits };
+    ghost invariant = { λ b. AreOver 8 b.from b.bytes b.bits };
 }
 
 impl Bitmap {
