@@ -4,6 +4,7 @@ use Rattle.std.specs.Prelude.{option_map, is_some, ◌==◌, ◌&&◌, nat_le, n
 use Rattle.std.specs.Int.{w32, to_le_bytes}
 use Rattle.std.proofs.lemmas.Bool.{cases_eq, cases_lt, cases_Bool, or_cases, eqb-true, or_left, or_right, or_parts}
 use Rattle.std.proofs.lemmas.List.Folds.{list_any-append}
+use Rattle.model_numbers.specs.Numbers.{page_bytes}
 use Rattle.cow_pages.specs.Address.{page_of}
 use Rattle.cow_pages.specs.Memory.{Memory, Page, page_at, frame_at, is_mapped, is_written, flag_of, HasOneSharer, IsShared, IsFree, IsSound}
 use Rattle.cow_pages.specs.Change.{TakesOnCopy, WritesPage}
@@ -63,8 +64,8 @@ module _ (old new : Memory) (t : ℕ) (ds : List ℕ) (c : ClearsSlots old new t
 
   mapped-before : (p : ℕ) → is_mapped new t p ≡ true → is_mapped old t p ≡ true
   mapped-before p is =
-      let e : page_of (p * 4096) ≡ p = omega arith in
-      ap (is_mapped old t) (sym e) ∙ sym (c.bytes.mapped (p * 4096)) ∙ ap (is_mapped new t) e ∙ is
+      let e : page_of (p * page_bytes) ≡ p = omega arith in
+      ap (is_mapped old t) (sym e) ∙ sym (c.bytes.mapped (p * page_bytes)) ∙ ap (is_mapped new t) e ∙ is
 
   mapped-after : (p : ℕ) → is_page_of ds p ≡ true → is_mapped new t p ≡ true
   mapped-after p is = let frame = written-frame new t p (c.written p is) in frame-mapped new t p frame.0 frame.1
