@@ -1,10 +1,8 @@
 -- What two calls of the outside give and gain together.
-use Rattle.std.proofs.Common.{◌≡◌, inl, inr, ℕ, ◌+◌, ◌≤◌, List, [], ◌++◌, Option, None, Some, length, take, refl, sym, ◌∙◌, ap, arith, append_assoc, length-take}
+use Rattle.std.proofs.Common.{◌≡◌, inl, inr, ℕ, ◌+◌, ◌≤◌, List, [], ◌++◌, Option, None, Some, refl, sym, ◌∙◌, ap, arith, append_assoc}
 use Rattle.std.specs.Option.{option_map}
 use Rattle.std.proofs.lemmas.Bool.{cases_lt}
-use Rattle.std.proofs.lemmas.List.{take-append-le}
-use Rattle.std.proofs.Math.Seq.{take-append-add}
-use borrow.Rule.Slice.PartMut.{put_mid, post_of}
+use Rattle.std.proofs.lemmas.List.{append-nil}
 use Rattle.ah_outside.specs.Outside.{FaultRose, Gave, Gained}
 
 -- bytes and then more bytes
@@ -25,12 +23,10 @@ pub Gave-none : (old : Option (List ℕ)) → Gave old [] old
 Gave-none None = refl
 Gave-none (Some rest) = refl
 
--- what was written behind the first bytes follows them
-pub take-written : (a k n : ℕ) (xs ys : List ℕ) → a ≤ length xs → n ≤ length ys → take (a + n) (put_mid a k xs ys) ≡ take a xs ++ take n ys
-take-written a k n xs ys in_xs in_ys =
-    let len : length (take a xs) ≡ a = omega (arith, length-take a xs) in
-    ap (λ i. take (i + n) (put_mid a k xs ys)) (sym len)
-    ∙ (take-append-add (take a xs) (ys ++ post_of a k xs) n ∙ ap (λ zs. take a xs ++ zs) (take-append-le n ys (post_of a k xs) in_ys))
+-- and nothing was gained
+pub Gained-none : (o : Option (List ℕ)) → Gained o [] o
+Gained-none None = refl
+Gained-none (Some held) = ap Some (sym (append-nil held))
 
 -- a fault in a later part of a call is one of the call
 pub FaultRose-earlier : (before mid now : ℕ) → before ≤ mid → mid ≤ now → FaultRose mid now → FaultRose before now

@@ -1,16 +1,14 @@
 -- A run of a script goes on by what a feed takes of a piece.
-use Rattle.std.proofs.Common.{◌≡◌, ℕ, ◌+◌, ◌-◌, ◌<◌, ◌≤◌, ◌||◌, Bool, true, false, List, [], ◌∷◌, ◌++◌, Option, Some, length, length-drop, take, drop, refl, sym, ◌∙◌, ap, subst, arith, append_assoc, length-append}
+use Rattle.std.proofs.Common.{◌≡◌, ℕ, ◌+◌, ◌-◌, ◌<◌, ◌≤◌, ◌||◌, Bool, true, false, List, [], ◌∷◌, ◌++◌, Some, length, length-drop, take, drop, refl, sym, ◌∙◌, ap, subst, arith, append_assoc, length-append}
 use Rattle.std.proofs.lemmas.List.{append-nil, take-append-drop, take_all}
 use Rattle.std.proofs.Math.Seq.{take-add}
 use Rattle.std.specs.Prelude.{if◌then◌else◌}
-use Rattle.heap_world.specs.World.{World}
 use Rattle.script_lang.specs.Feeding.{Feed, first_part, has_line_feed, kept_line, taken}
 use Rattle.script_lang.specs.Parts.{is_byte, parts}
 use Rattle.script_lang.proofs.FeedingLemmas.{OnePart-first_part, parts-ended, take-taken}
 use Rattle.script_lang.proofs.PartsLemmas.{lines-ended, parts-append, whole_lines-last}
 use Rattle.script_run.specs.declared.stop.Stop.{Stop}
-use Rattle.script_run.specs.declared.stop.Stop.TheVariants.{Read, Write, Memory, TooLong}
-use Rattle.script_run.proofs.Outside.{FaultRose-earlier}
+use Rattle.script_run.specs.Outside.{Output}
 use Rattle.script_run.specs.Progress.{HasRun, HasRunLines, StoppedBehind, StoppedIn}
 
 -- without a line feed, what is taken is one part
@@ -30,17 +28,17 @@ or_false true = refl
 or_false false = refl
 
 -- no line came whole
-pub fed_open : (budget : ℕ) (text piece : List ℕ) (feed feed' : Feed) (refused : Bool) (g g1 : Option (List ℕ)) (machine : World)
-    → HasRun budget text feed refused g g1 machine → has_line_feed piece ≡ false → feed'.number ≡ feed.number
+pub fed_open : (budget : ℕ) (text piece : List ℕ) (feed feed' : Feed) (refused : Bool) (old new : Output)
+    → HasRun budget text feed refused old new → has_line_feed piece ≡ false → feed'.number ≡ feed.number
     → ((part : List ℕ) → feed.kept ≡ kept_line part → feed'.kept ≡ kept_line (part ++ first_part piece))
-    → HasRun budget (text ++ taken piece) feed' (refused || false) g g1 machine
-fed_open budget text piece feed feed' refused g g1 machine h none number kept = record {
+    → HasRun budget (text ++ taken piece) feed' (refused || false) old new
+fed_open budget text piece feed feed' refused old new h none number kept = record {
   done = h.done;
   part = h.part ++ first_part piece;
   cut = parts-append (is_byte 10) text (taken piece) h.done h.part (first_part piece) [] h.cut (taken_open piece none);
   number = number ∙ h.number;
   kept = kept h.part h.kept;
-  has_run = subst (λ b. HasRunLines budget h.done b g g1 machine) (sym (or_false refused)) h.has_run;
+  has_run = subst (λ b. HasRunLines budget h.done b old new) (sym (or_false refused)) h.has_run;
 }
 
 -- the parts of a text and what is taken behind it, where a line came whole
@@ -51,11 +49,11 @@ whole_cut text piece done part cut one =
     ∙ sym (append_assoc done ((part ++ first_part piece) ∷ []) ([] ∷ []))
 
 -- a line came whole and was run
-pub fed_whole : (budget : ℕ) (text piece : List ℕ) (feed feed' : Feed) (refused refused' : Bool) (g g1 g2 : Option (List ℕ)) (machine machine' : World)
-    → (h : HasRun budget text feed refused g g1 machine) → has_line_feed piece ≡ true → feed'.number ≡ feed.number + 1 → feed'.kept ≡ Some []
-    → HasRunLines budget (h.done ++ (h.part ++ first_part piece) ∷ []) refused' g g2 machine'
-    → HasRun budget (text ++ taken piece) feed' refused' g g2 machine'
-fed_whole budget text piece feed feed' refused refused' g g1 g2 machine machine' h one number kept has_run = record {
+pub fed_whole : (budget : ℕ) (text piece : List ℕ) (feed feed' : Feed) (refused refused' : Bool) (old mid new : Output)
+    → (h : HasRun budget text feed refused old mid) → has_line_feed piece ≡ true → feed'.number ≡ feed.number + 1 → feed'.kept ≡ Some []
+    → HasRunLines budget (h.done ++ (h.part ++ first_part piece) ∷ []) refused' old new
+    → HasRun budget (text ++ taken piece) feed' refused' old new
+fed_whole budget text piece feed feed' refused refused' old mid new h one number kept has_run = record {
   done = h.done ++ (h.part ++ first_part piece) ∷ [];
   part = [];
   cut = whole_cut text piece h.done h.part h.cut one;
@@ -65,11 +63,11 @@ fed_whole budget text piece feed feed' refused refused' g g1 g2 machine machine'
 }
 
 -- a line came whole and stopped
-pub fed_stopped : (stop : Stop) (budget : ℕ) (text piece : List ℕ) (feed : Feed) (refused : Bool) (f f' : ℕ) (g g1 g2 : Option (List ℕ)) (machine machine' : World)
-    → (h : HasRun budget text feed refused g g1 machine) → has_line_feed piece ≡ true → 0 < length (taken piece)
-    → StoppedBehind stop budget h.done (h.part ++ first_part piece) f f' g g2 machine'
-    → StoppedIn budget (text ++ piece) (length piece) stop f f' g g2 machine'
-fed_stopped stop budget text piece feed refused f f' g g1 g2 machine machine' h one some stopped =
+pub fed_stopped : (stop : Stop) (budget : ℕ) (text piece : List ℕ) (feed : Feed) (refused : Bool) (old mid new : Output)
+    → (h : HasRun budget text feed refused old mid) → has_line_feed piece ≡ true → 0 < length (taken piece)
+    → StoppedBehind stop budget h.done (h.part ++ first_part piece) old new
+    → StoppedIn budget (text ++ piece) (length piece) stop old new
+fed_stopped stop budget text piece feed refused old mid new h one some stopped =
     let n = length (taken piece) in
     let all : taken piece ++ drop n piece ≡ piece = ap (λ (xs : List ℕ). xs ++ drop n piece) (sym (take-taken piece)) ∙ take-append-drop n piece in
     record {
@@ -94,30 +92,23 @@ or_more true b c = refl
 or_more false b c = refl
 
 -- more of a piece was fed
-pub run_more : (budget : ℕ) (text piece rest : List ℕ) (k n : ℕ) (feed : Feed) (a b c : Bool) (g g1 : Option (List ℕ)) (machine : World)
-    → rest ≡ drop k piece → HasRun budget ((text ++ take k piece) ++ take n rest) feed ((a || b) || c) g g1 machine
-    → HasRun budget (text ++ take (k + n) piece) feed (a || (b || c)) g g1 machine
-run_more budget text piece rest k n feed a b c g g1 machine is h =
+pub run_more : (budget : ℕ) (text piece rest : List ℕ) (k n : ℕ) (feed : Feed) (a b c : Bool) (old new : Output)
+    → rest ≡ drop k piece → HasRun budget ((text ++ take k piece) ++ take n rest) feed ((a || b) || c) old new
+    → HasRun budget (text ++ take (k + n) piece) feed (a || (b || c)) old new
+run_more budget text piece rest k n feed a b c old new is h =
     let e : (text ++ take k piece) ++ take n rest ≡ text ++ take (k + n) piece =
     append_assoc text (take k piece) (take n rest) ∙ (ap (λ (xs : List ℕ). text ++ (take k piece ++ take n xs)) is ∙ ap (λ (xs : List ℕ). text ++ xs) (sym (take-add k n piece))) in
-    subst (λ (xs : List ℕ). HasRun budget xs feed (a || (b || c)) g g1 machine) e (subst (λ r. HasRun budget ((text ++ take k piece) ++ take n rest) feed r g g1 machine) (or_more a b c) h)
+    subst (λ (xs : List ℕ). HasRun budget xs feed (a || (b || c)) old new) e (subst (λ r. HasRun budget ((text ++ take k piece) ++ take n rest) feed r old new) (or_more a b c) h)
 
 -- the rest of a list, as a slice
 pub rest_of : (k : ℕ) (xs : List ℕ) → take (length xs - k) (drop k xs) ≡ drop k xs
 rest_of k xs = take_all (length xs - k) (drop k xs) (omega (arith, length-drop k xs))
 
-stopped_earlier : (stop : Stop) (budget : ℕ) (before : List (List ℕ)) (line : List ℕ) (f mid f' : ℕ) (g g1 : Option (List ℕ)) (machine : World)
-    → f ≤ mid → mid ≤ f' → StoppedBehind stop budget before line mid f' g g1 machine → StoppedBehind stop budget before line f f' g g1 machine
-stopped_earlier Read budget before line f mid f' g g1 machine p q h = h
-stopped_earlier Write budget before line f mid f' g g1 machine p q h = (h.0, FaultRose-earlier f mid f' p q h.1)
-stopped_earlier Memory budget before line f mid f' g g1 machine p q h = h
-stopped_earlier TooLong budget before line f mid f' g g1 machine p q h = h
-
 -- a stop in what was left of a piece is one in the piece
-pub stop_more : (stop : Stop) (budget : ℕ) (text piece rest : List ℕ) (k f mid f' : ℕ) (g g1 : Option (List ℕ)) (machine : World)
-    → rest ≡ drop k piece → f ≤ mid → mid ≤ f' → StoppedIn budget ((text ++ take k piece) ++ rest) (length rest) stop mid f' g g1 machine
-    → StoppedIn budget (text ++ piece) (length piece) stop f f' g g1 machine
-stop_more stop budget text piece rest k f mid f' g g1 machine is p q h = record {
+pub stop_more : (stop : Stop) (budget : ℕ) (text piece rest : List ℕ) (k : ℕ) (old new : Output)
+    → rest ≡ drop k piece → StoppedIn budget ((text ++ take k piece) ++ rest) (length rest) stop old new
+    → StoppedIn budget (text ++ piece) (length piece) stop old new
+stop_more stop budget text piece rest k old new is h = record {
   before = h.before;
   line = h.line;
   upto = h.upto;
@@ -126,5 +117,5 @@ stop_more stop budget text piece rest k f mid f' g g1 machine is p q h = record 
   got = h.got;
   ended = h.ended;
   few = omega (arith, h.few, ap length is, length-drop k piece);
-  stopped = stopped_earlier stop budget h.before h.line f mid f' g g1 machine p q h.stopped;
+  stopped = h.stopped;
 }

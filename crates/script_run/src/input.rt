@@ -49,9 +49,10 @@ fn take_piece<S: Source, W: Sink>(
     let Ok(count) = source.take(buf) else {
         return Err(Stop::Read);
     };
-    let within = count.min(run.room);
-    run.refused |= run_piece(alloc, &buf[..within], &mut run.feed, sink, machine)?;
-    if within < count {
+    let taken = &buf[..count];
+    let within = taken.len().min(run.room);
+    run.refused |= run_piece(alloc, &taken[..within], &mut run.feed, sink, machine)?;
+    if within < taken.len() {
         return Err(Stop::TooLong);
     }
     run.room -= within;

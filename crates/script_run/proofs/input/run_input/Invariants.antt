@@ -1,20 +1,23 @@
-use Rattle.std.proofs.Common.{◌≡◌, ℕ, ◌≤◌, List, Option, length}
-use Rattle.script_run.specs.Ends.{input_limit}
+use Rattle.std.proofs.Common.{◌≡◌, ℕ, ◌≤◌, length}
+use Rattle.model_numbers.specs.Numbers.{input_limit, piece_bytes}
+use Rattle.script_run.specs.Outside.{Outside, outside_of}
 use Rattle.script_run.specs.Progress.{HasTaken, IsGoing}
-use Rattle.script_run.proofs.script.run_lines.Given as goal
+use Rattle.script_run.proofs.input.run_input.Given as goal
 
 abbrev pub invariant-loop : goal.invariant-loop
 invariant-loop g l =
-    let of = g.S.Source.left in
+    let left = g.S.Source.left in
+    let reads = g.S.Source.fault_count in
     let told = g.W.Sink.gained in
+    let puts = g.W.Sink.fault_count in
     record {
-      piece : length l.buf ≡ 4096;
-      going : IsGoing l.run.feed l.run.room;
+      piece : length l.buf ≡ piece_bytes;
+      going : IsGoing l.run;
       room : l.run.room ≤ input_limit;
-      reads : g.S.Source.fault_count l.fn.source ≤ g.S.Source.fault_count l.source;
-      puts : g.W.Sink.fault_count l.fn.sink ≤ g.W.Sink.fault_count l.sink;
-      so_far : (budget : ℕ) (left gained : Option (List ℕ)) → HasTaken budget l.fn.run.room l.fn.run.feed l.fn.run.refused left (of l.fn.source) gained (told l.fn.sink) l.fn.machine
-          → HasTaken budget l.run.room l.run.feed l.run.refused left (of l.source) gained (told l.sink) l.machine;
+      source_faults : reads l.fn.source ≤ reads l.source;
+      sink_faults : puts l.fn.sink ≤ puts l.sink;
+      so_far : (budget : ℕ) (old : Outside) → HasTaken budget l.fn.run old (outside_of (left l.fn.source) (reads l.fn.source) (told l.fn.sink) (puts l.fn.sink) l.fn.machine)
+          → HasTaken budget l.run old (outside_of (left l.source) (reads l.source) (told l.sink) (puts l.sink) l.machine);
     }
 
 abbrev pub decreases-loop : goal.decreases-loop
