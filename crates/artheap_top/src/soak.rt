@@ -115,8 +115,7 @@ pub(crate) fn soak<W: Sink>(
 ) -> Result<bool, Stop>
     requires is_new { StandsFor machine.old empty_world }
     requires possible { (start ≤ 2147483647) × (count ≤ 1000000) × (1 ≤ regions) × (regions ≤ most_regions) }
-    ensures ended {
-        let old = output_of (W.gained sink.old) (W.fault_count sink.old) machine.old in
+    ensures ended { let old = output_of (W.gained sink.old) (W.fault_count sink.old) machine.old in
         let new = output_of (W.gained sink.new) (W.fault_count sink.new) machine.new in
         EndedSoak regions start count (job_status result) old new }
     ensures never_falls { W.fault_count sink.old ≤ W.fault_count sink.new }

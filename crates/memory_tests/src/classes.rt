@@ -1,7 +1,8 @@
 //! Classes: where their fields stand, and how many there may be.
 ghost use Rattle.std.specs.Prelude.{◌≤◌, length};
 
-use class_layout::{CLASS_LIMIT, Classes, DefineError, FieldDecl, Kind, Name};
+use class_layout::{Classes, DefineError, FieldDecl, Kind, Name};
+use model_numbers::CLASS_LIMIT;
 use std::alloc::Global;
 use std::test::Fail;
 

@@ -1,5 +1,8 @@
 //! The forms in memory: what they give and take, and where they fail.
-use ah_outside::{Failed, MemoryShelf, MemorySink, MemorySource, Shelf, Sink, SoundShelf, SoundSink, SoundSource, Source, put_all};
+use ah_outside::{
+    Failed, MemoryShelf, MemorySink, MemorySource, Shelf, Sink, SoundShelf, SoundSink, SoundSource,
+    Source, put_all,
+};
 use std::test::Fail;
 
 #[test]

@@ -1,10 +1,9 @@
 //! Writers as sinks, and files as entries of a shelf.
 use ah_outside::{BufferedSink, Failed, FolderShelf, SharedWriter, Shelf, Sink, WriteSink};
-use std::fs;
-use std::io;
 use std::io::BufWriter;
 use std::os::unix::fs::symlink;
 use std::test::Fail;
+use std::{fs, io};
 
 #[test]
 fn writes_and_flushes(rt: HostRuntime) -> Result<(), Fail> {

@@ -48,8 +48,7 @@ pub fn run_script<S: Source, W: Sink>(
 ) -> Result<bool, Stop>
     requires is_new { StandsFor machine.old empty_world }
     requires few_regions { (1 ≤ regions) × (regions ≤ most_regions) }
-    ensures ended {
-        let old = outside_of (S.left source.old) (S.fault_count source.old) (W.gained sink.old) (W.fault_count sink.old) machine.old in
+    ensures ended { let old = outside_of (S.left source.old) (S.fault_count source.old) (W.gained sink.old) (W.fault_count sink.old) machine.old in
         let new = outside_of (S.left source.new) (S.fault_count source.new) (W.gained sink.new) (W.fault_count sink.new) machine.new in
         EndedRun regions (job_status result) old new }
     ensures source_faults { S.fault_count source.old ≤ S.fault_count source.new }

@@ -24,7 +24,10 @@ fn scripts_give_their_reports(rt: HostRuntime) -> Result<(), Fail> {
             let mut source = MemorySource::new(alloc, row.script, piece, &[])?;
             let mut sink = MemorySink::new(alloc, 10_000, &[])?;
             let words = ["run", "--regions", row.regions];
-            assert_eq!(rt; call(alloc, &words, &mut source, &mut sink)?.status, row.status);
+            assert_eq!(rt;
+                call(alloc, &words, &mut source, &mut sink)?.status,
+                row.status
+            );
             assert_eq!(rt; sink.bytes(), row.report);
             assert_eq!(rt; source.left().len(), 0);
         }

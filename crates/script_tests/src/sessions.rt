@@ -77,7 +77,10 @@ fn a_session_gives_its_report_in_any_pieces(rt: HostRuntime) -> Result<(), Fail>
     for piece in CUTTINGS {
         let mut source = MemorySource::new(alloc, session.script.as_bytes(), piece, &[])?;
         let mut sink = MemorySink::new(alloc, 100_000, &[])?;
-        assert_eq!(rt; call(alloc, &["run"], &mut source, &mut sink)?.status, Status::Ok);
+        assert_eq!(rt;
+            call(alloc, &["run"], &mut source, &mut sink)?.status,
+            Status::Ok
+        );
         assert_eq!(rt; sink.bytes(), session.report.as_bytes());
     }
     Ok(())

@@ -47,7 +47,10 @@ fn soaks_give_their_summaries(rt: HostRuntime) -> Result<(), Fail> {
     for row in &ROWS {
         let mut source = MemorySource::new(alloc, b"", 1, &[1])?;
         let mut sink = MemorySink::new(alloc, 1000, row.fails)?;
-        assert_eq!(rt; call(alloc, row.words, &mut source, &mut sink)?.status, row.status);
+        assert_eq!(rt;
+            call(alloc, row.words, &mut source, &mut sink)?.status,
+            row.status
+        );
         assert_eq!(rt; sink.bytes(), row.summary);
     }
     Ok(())
