@@ -58,33 +58,3 @@ impl<W: Write + Drop> Sink for BufferedSink<'_, W> {
         }
     }
 }
-
-#[cfg(test)]
-mod tests {
-    use super::*;
-    use std::io;
-
-    #[test]
-    fn holds_back_and_counts_what_is_not_taken(rt: HostRuntime) -> io::Result<()> {
-        let mut room = [0; 4];
-        let writer = SharedWriter::new(rt.alloc(), 8, &mut room[..])?;
-        let mut sink = BufferedSink::new(&writer);
-        // what is put, what the call answers, and how many faults there were: only the first six bytes are ever
-        // held back, and four of them find room
-        let expected: [(&[u8], Result<usize, Failed>, u64); 4] = [
-            (b"abc", Ok(3), 0),
-            (b"def", Ok(3), 0),
-            (b"ghi", Err(Failed), 1),
-            (b"", Ok(0), 1),
-        ];
-        for (piece, answer, faults) in expected {
-            assert_eq!(rt; sink.put(piece), answer);
-            assert_eq!(rt; sink.faults(), faults);
-            assert_eq!(rt; writer.has_failed(), faults > 0);
-        }
-        assert_eq!(rt; writer.flush(), Err(Failed));
-        drop(writer);
-        assert_eq!(rt; room, *b"abcd");
-        Ok(())
-    }
-}

@@ -140,32 +140,3 @@ impl<R: Files> Shelf for FolderShelf<'_, R> {
         Ok(())
     }
 }
-
-#[cfg(test)]
-mod tests {
-    use super::*;
-    use std::os::unix::fs::symlink;
-    use std::test::Fail;
-
-    #[test]
-    fn makes_files_in_place_of_others(rt: HostRuntime) -> Result<(), Fail> {
-        let (target, first, second) = ("folder_shelf.0", "folder_shelf.1", "folder_shelf.2");
-        fs::write(&rt, target, "kept")?;
-        fs::write(&rt, first, "what stood there before")?;
-        symlink(&rt, target, second)?;
-        let mut shelf = FolderShelf::new(&rt);
-        assert_eq!(rt; shelf.begin(first.as_bytes()), Ok(()));
-        assert_eq!(rt; shelf.put(b"abc"), Ok(()));
-        assert_eq!(rt; shelf.put(b"de"), Ok(()));
-        assert_eq!(rt; shelf.finish(), Ok(()));
-        assert_eq!(rt; shelf.begin(second.as_bytes()), Ok(()));
-        assert_eq!(rt; shelf.finish(), Ok(()));
-        assert_eq!(rt; shelf.begin(b"folder/file"), Err(Failed));
-        assert_eq!(rt; shelf.faults(), 1);
-        for (name, text) in [(target, "kept"), (first, "abcde"), (second, "")] {
-            assert_eq!(rt; fs::read_to_string(&rt, name)?.as_str(), text);
-            fs::remove_file(&rt, name)?;
-        }
-        Ok(())
-    }
-}

@@ -212,38 +212,3 @@ impl Shelf for MemoryShelf {
         Ok(())
     }
 }
-
-#[cfg(test)]
-mod tests {
-    use super::*;
-    use std::test::Fail;
-
-    #[test]
-    fn keeps_bytes_and_fails_at_its_numbers(rt: HostRuntime) -> Result<(), Fail> {
-        let mut shelf = MemoryShelf::new(rt.alloc(), 1, 7, &[3])?;
-        assert_eq!(rt; shelf.begin(b"ab"), Ok(()));
-        assert_eq!(rt; shelf.put(b"cde"), Ok(()));
-        assert_eq!(rt; shelf.put(b"f"), Err(Failed), "a chosen call");
-        assert_eq!(rt; shelf.put(b"fgh"), Err(Failed), "room for two");
-        assert_eq!(rt; shelf.put(b"fg"), Ok(()));
-        assert_eq!(rt; shelf.count(), 1);
-        assert_eq!(rt; shelf.name_at(0), b"ab".as_slice());
-        assert_eq!(rt; shelf.bytes_at(0), b"cdefg".as_slice());
-        assert!(rt; !shelf.closed_at(0));
-        assert_eq!(rt; shelf.faults(), 2);
-        Ok(())
-    }
-
-    #[test]
-    fn holds_as_many_entries_and_names_as_it_may(rt: HostRuntime) -> Result<(), Fail> {
-        let mut shelf = MemoryShelf::new(rt.alloc(), 1, 3, &[])?;
-        assert_eq!(rt; shelf.begin(b"abcd"), Err(Failed), "room for three");
-        assert_eq!(rt; shelf.begin(b"abc"), Ok(()));
-        assert_eq!(rt; shelf.finish(), Ok(()));
-        assert_eq!(rt; shelf.begin(b""), Err(Failed), "one entry stands");
-        assert_eq!(rt; shelf.count(), 1);
-        assert!(rt; shelf.closed_at(0));
-        assert_eq!(rt; shelf.faults(), 2);
-        Ok(())
-    }
-}

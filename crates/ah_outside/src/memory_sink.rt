@@ -78,39 +78,3 @@ impl Sink for MemorySink {
         Ok(n)
     }
 }
-
-#[cfg(test)]
-mod tests {
-    use super::*;
-    use crate::put_all;
-    use std::test::Fail;
-
-    #[test]
-    fn takes_what_it_has_room_for_and_fails_at_its_numbers(rt: HostRuntime) -> Result<(), Fail> {
-        let mut sink = MemorySink::new(rt.alloc(), 7, &[2])?;
-        // what each call is given and answers, what the sink holds then, and how many faults there were
-        let expected: [(&[u8], Result<usize, Failed>, &[u8], u64); 6] = [
-            (b"abc", Ok(3), b"abc", 0),
-            (b"def", Err(Failed), b"abc", 1),
-            (b"def", Ok(3), b"abcdef", 1),
-            (b"ghi", Ok(1), b"abcdefg", 1),
-            (b"", Ok(0), b"abcdefg", 1),
-            (b"hi", Err(Failed), b"abcdefg", 2),
-        ];
-        for (piece, answer, bytes, faults) in expected {
-            assert_eq!(rt; sink.put(piece), answer);
-            assert_eq!(rt; sink.bytes(), bytes);
-            assert_eq!(rt; sink.faults(), faults);
-        }
-        Ok(())
-    }
-
-    #[test]
-    fn keeps_what_was_put_before_a_fault(rt: HostRuntime) -> Result<(), Fail> {
-        let mut sink = MemorySink::new(rt.alloc(), 4, &[])?;
-        assert_eq!(rt; put_all(&mut sink, b"ab"), Ok(()));
-        assert_eq!(rt; put_all(&mut sink, b"cde"), Err(Failed));
-        assert_eq!(rt; sink.bytes(), b"abcd".as_slice());
-        Ok(())
-    }
-}

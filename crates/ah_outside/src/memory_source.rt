@@ -92,31 +92,3 @@ impl Source for MemorySource {
         Ok(n)
     }
 }
-
-#[cfg(test)]
-mod tests {
-    use super::*;
-    use std::test::Fail;
-
-    #[test]
-    fn gives_pieces_and_fails_at_its_numbers(rt: HostRuntime) -> Result<(), Fail> {
-        let mut source = MemorySource::new(rt.alloc(), b"abcdefg", 3, &[2, 4])?;
-        let mut buf = [0; 8];
-        // what each call answers, what is left then, and how many faults there were
-        let expected: [(Result<usize, Failed>, &[u8], u64); 6] = [
-            (Ok(3), b"defg", 0),
-            (Err(Failed), b"defg", 1),
-            (Ok(3), b"g", 1),
-            (Err(Failed), b"g", 2),
-            (Ok(1), b"", 2),
-            (Ok(0), b"", 2),
-        ];
-        for (answer, left, faults) in expected {
-            assert_eq!(rt; source.take(&mut buf), answer);
-            assert_eq!(rt; source.left(), left);
-            assert_eq!(rt; source.faults(), faults);
-        }
-        assert_eq!(rt; &buf[..3], b"gef".as_slice());
-        Ok(())
-    }
-}

@@ -62,32 +62,3 @@ impl<R: Read> Source for ReadSource<R> {
         }
     }
 }
-
-#[cfg(test)]
-mod tests {
-    use super::*;
-    use std::io;
-
-    // A reader that is broken from the start.
-    #[derive(Drop)]
-    struct Broken;
-
-    impl Read for Broken {
-        fn read(&mut self, _buf: &mut [u8]) -> io::Result<usize> {
-            Err(io::ErrorKind::BrokenPipe.into())
-        }
-    }
-
-    #[test]
-    fn reads_and_counts_faults(rt: HostRuntime) {
-        let text: &[u8] = b"abcde";
-        let mut source = ReadSource::new(text.chain(Broken));
-        let mut buf = [0; 3];
-        let expected = [(Ok(3), 0), (Ok(2), 0), (Err(Failed), 1), (Err(Failed), 2)];
-        for (answer, faults) in expected {
-            assert_eq!(rt; source.take(&mut buf), answer);
-            assert_eq!(rt; source.faults(), faults);
-        }
-        assert_eq!(rt; buf, *b"dec");
-    }
-}

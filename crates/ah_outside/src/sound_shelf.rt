@@ -68,17 +68,3 @@ impl Shelf for SoundShelf {
         Ok(())
     }
 }
-
-#[cfg(test)]
-mod tests {
-    use super::*;
-
-    #[test]
-    fn takes_an_entry(rt: HostRuntime) {
-        let mut shelf = SoundShelf::new();
-        assert_eq!(rt; shelf.begin(b"first"), Ok(()));
-        assert_eq!(rt; shelf.put(b"abc"), Ok(()));
-        assert_eq!(rt; shelf.finish(), Ok(()));
-        assert_eq!(rt; shelf.faults(), 0);
-    }
-}

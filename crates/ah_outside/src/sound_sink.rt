@@ -30,17 +30,3 @@ impl Sink for SoundSink {
         Ok(piece.len())
     }
 }
-
-#[cfg(test)]
-mod tests {
-    use super::*;
-    use crate::put_all;
-
-    #[test]
-    fn takes_each_piece(rt: HostRuntime) {
-        let mut sink = SoundSink::new();
-        assert_eq!(rt; sink.put(b"abc"), Ok(3));
-        assert_eq!(rt; put_all(&mut sink, b"de"), Ok(()));
-        assert_eq!(rt; sink.faults(), 0);
-    }
-}

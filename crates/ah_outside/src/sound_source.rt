@@ -52,19 +52,3 @@ impl Source for SoundSource<'_> {
         Ok(n)
     }
 }
-
-#[cfg(test)]
-mod tests {
-    use super::*;
-
-    #[test]
-    fn gives_all_and_ends(rt: HostRuntime) {
-        let mut source = SoundSource::new(b"abcde");
-        let mut buf = [0; 3];
-        for answer in [3, 2, 0] {
-            assert_eq!(rt; source.take(&mut buf), Ok(answer));
-        }
-        assert_eq!(rt; buf, *b"dec");
-        assert_eq!(rt; source.faults(), 0);
-    }
-}

@@ -84,34 +84,3 @@ impl<W: Write> Sink for WriteSink<W> {
         }
     }
 }
-
-#[cfg(test)]
-mod tests {
-    use super::*;
-    use std::io::BufWriter;
-    use std::test::Fail;
-
-    #[test]
-    fn writes_and_flushes(rt: HostRuntime) -> Result<(), Fail> {
-        let mut out = Vec::new(rt.alloc());
-        let mut sink = WriteSink::new(BufWriter::new(rt.alloc(), &mut out)?);
-        assert_eq!(rt; sink.put(b"abc"), Ok(3));
-        assert_eq!(rt; sink.put(b""), Ok(0));
-        assert_eq!(rt; sink.flush(), Ok(()));
-        assert_eq!(rt; sink.faults(), 0);
-        drop(sink);
-        assert_eq!(rt; out.as_slice(), b"abc".as_slice());
-        Ok(())
-    }
-
-    #[test]
-    fn counts_what_is_not_taken(rt: HostRuntime) {
-        let mut room = [0; 4];
-        let mut sink = WriteSink::new(&mut room[..]);
-        let expected = [(Ok(3), 0), (Ok(1), 0), (Err(Failed), 1), (Err(Failed), 2)];
-        for (answer, faults) in expected {
-            assert_eq!(rt; sink.put(b"abc"), answer);
-            assert_eq!(rt; sink.faults(), faults);
-        }
-    }
-}

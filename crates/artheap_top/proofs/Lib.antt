@@ -1,12 +1,2 @@
 pub mod Completeness
-pub mod Outside
-pub mod OwnAlone
-pub mod OwnCommands
-pub mod OwnText
-pub mod OwnTold
-pub mod Picked
-pub mod Reports
-pub mod Runs
 pub mod Soaks
-pub mod Taken
-pub mod Turns

@@ -1,5 +1,7 @@
 -- What is counted of lines, line by line.
-use Rattle.std.proofs.Common.{◌≡◌, ℕ, zero, suc, ◌+◌, ◌||◌, Bool, true, false, List, [], ◌∷◌, ◌++◌, Option, None, Some, cond, filter, length, nat_lt, slice_get, take, refl, sym, ◌∙◌, ap, subst, arith, append_assoc, length-append, suc-add}
+use Rattle.std.proofs.Common.{◌≡◌, ℕ, zero, suc, ◌+◌, ◌≤◌, ◌||◌, Bool, true, false, List, [], ◌∷◌, ◌++◌, Option, None, Some, cond, filter, length, nat_lt, slice_get, take, refl, sym, ◌∙◌, ap, subst, arith, append_assoc, length-append, suc-add}
+use Rattle.std.specs.Prelude.{if◌then◌else◌}
+use Rattle.std.proofs.lemmas.Bool.{le-leb}
 use Rattle.std.proofs.lemmas.Bool.Decides.{nat_tests}
 use Rattle.std.proofs.lemmas.List.{take_more}
 use Rattle.std.proofs.lemmas.List.Elements.{filter-append}
@@ -9,19 +11,25 @@ use Rattle.heap_world.specs.declared.reply.Reply.{Reply}
 use Rattle.heap_world.specs.Effect.{is_refusal}
 use Rattle.heap_world.specs.Run.{Answer}
 use Rattle.heap_world.specs.World.{World, first_world}
+use Rattle.model_numbers.specs.Numbers.{line_limit}
 use Rattle.plain_machine.specs.Worlds.{StandsFor}
+use Rattle.script_lang.specs.Feeding.{kept_line}
 use Rattle.script_make.specs.Lines.{made_line, next_state}
 use Rattle.script_make.specs.Script.{made_lines, soak_lines, state_after}
 use Rattle.script_make.specs.declared.state.MakeState.{MakeState}
-use Rattle.artheap_top.specs.declared.status.Status.TheVariants.{WriteFault}
+use Rattle.script_run.specs.declared.status.Status.TheVariants.{WriteFault}
 use Rattle.artheap_top.specs.declared.summary.Summary.{Summary}
 use Rattle.artheap_top.specs.declared.tally.Tally.{Tally}
-use Rattle.artheap_top.specs.Ends.{EndedSoak}
-use Rattle.artheap_top.specs.Progress.{refused_status}
-use Rattle.artheap_top.specs.Report.{answers_of, has_refusal, step_line, with_answer, world_of}
-use Rattle.artheap_top.specs.Soaking.{HasSoaked, counted, no_lines, one_more_if}
+use Rattle.script_run.specs.Outside.{Output}
+use Rattle.script_run.specs.Status.{refused_status}
+use Rattle.script_report.specs.Report.{answers_of, has_refusal, step_line, with_answer, world_of}
+use Rattle.artheap_top.specs.Soaking.{EndedSoak, HasSoaked, counted, no_lines, one_more_if}
 use Rattle.artheap_top.specs.Summary.{collection_count, refusal_count, summary, summary_of, summary_text, tells_collection}
-use Rattle.artheap_top.proofs.Reports.{answers-more, next_answers, world-more}
+use Rattle.script_report.proofs.Reports.{answers-more, next_answers, world-more}
+
+-- a short line is kept
+pub short_kept : (line : List ℕ) → length line ≤ line_limit → Some line ≡ kept_line line
+short_kept line short = ap (λ b. if b then Some line else None) (sym (le-leb (length line) line_limit short))
 
 -- how many of the answers with one more pass a test
 count-more : (p : Answer → Bool) (budget : ℕ) (ls : List (List ℕ)) (l : List ℕ)
@@ -116,19 +124,19 @@ take-found xs k x found = take_more xs k x (slice_get_within xs k x found) ∙ a
 pub soaks_begin : (budget : ℕ) (t : Tally) (machine : World) → t ≡ no_lines → StandsFor machine (first_world budget 1) → HasSoaked budget [] t machine
 soaks_begin budget t machine is stands = subst (λ u. HasSoaked budget [] u machine) (sym is) (record { lines = refl; refused = refl; collections = refl; stands = stands })
 
-module _ (budget start count : ℕ) (t : Tally) (s : Summary) (faults faults' : ℕ) (gained gained' : Option (List ℕ)) (machine : World)
-    (had : HasSoaked budget (soak_lines start count) t machine) (is : s ≡ summary_of budget start count (soak_lines start count)) where
+module _ (budget start count : ℕ) (t : Tally) (s : Summary) (old new : Output)
+    (had : HasSoaked budget (soak_lines start count) t new.machine) (is : s ≡ summary_of budget start count (soak_lines start count)) where
   -- the summary was put whole
-  pub soak_ends : Gained gained (summary_text s) gained' → EndedSoak budget start count (refused_status (nat_lt 0 t.refused)) gained gained' faults faults' machine
+  pub soak_ends : Gained old.gained (summary_text s) new.gained → EndedSoak budget start count (refused_status (nat_lt 0 t.refused)) old new
   soak_ends put =
       by (nat_lt 0 t.refused) (refusals_tell (answers_of budget (soak_lines start count)) ∙ ap (nat_lt 0) (sym had.refused))
-      (subst (λ u. Gained gained (summary_text u) gained') is put)
+      (subst (λ u. Gained old.gained (summary_text u) new.gained) is put)
     where
-      by : (b : Bool) → has_refusal (answers_of budget (soak_lines start count)) ≡ b → Gained gained (summary budget start count) gained'
-          → EndedSoak budget start count (refused_status b) gained gained' faults faults' machine
+      by : (b : Bool) → has_refusal (answers_of budget (soak_lines start count)) ≡ b → Gained old.gained (summary budget start count) new.gained
+          → EndedSoak budget start count (refused_status b) old new
       by true e told = (told, record { refusals = e; stands = had.stands })
       by false e told = (told, record { refusals = e; stands = had.stands })
 
   -- or in part
-  pub soak_stops : GainedPrefix gained (summary_text s) gained' → FaultRose faults faults' → EndedSoak budget start count WriteFault gained gained' faults faults' machine
-  soak_stops put rose = (subst (λ u. GainedPrefix gained (summary_text u) gained') is put, had.stands, rose)
+  pub soak_stops : GainedPrefix old.gained (summary_text s) new.gained → FaultRose old.write_faults new.write_faults → EndedSoak budget start count WriteFault old new
+  soak_stops put rose = (subst (λ u. GainedPrefix old.gained (summary_text u) new.gained) is put, had.stands, rose)

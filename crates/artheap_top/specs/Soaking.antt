@@ -1,12 +1,17 @@
--- What is counted while the lines of a soak are run.
+-- What is counted while the lines of a soak are run, and how a soak may end.
 use Rattle.std.specs.Prelude.{◌≡◌, ℕ, ◌+◌, ◌≤◌, Bool, true, false, List, Option, None, Some, length}
+use Rattle.ah_outside.specs.Outside.{FaultRose, Gained, GainedPrefix}
 use Rattle.heap_world.specs.declared.reply.Reply.{Reply}
 use Rattle.heap_world.specs.Effect.{is_refusal}
 use Rattle.heap_world.specs.World.{World}
 use Rattle.plain_machine.specs.Worlds.{StandsFor}
+use Rattle.script_make.specs.Script.{soak_lines}
+use Rattle.script_report.specs.Report.{answers_of, has_refusal, world_of}
+use Rattle.script_run.specs.declared.status.Status.{Status}
+use Rattle.script_run.specs.declared.status.Status.TheVariants as status
+use Rattle.script_run.specs.Outside.{Output}
 use Rattle.artheap_top.specs.declared.tally.Tally.{Tally}
-use Rattle.artheap_top.specs.Report.{answers_of, world_of}
-use Rattle.artheap_top.specs.Summary.{collection_count, refusal_count, tells_collection}
+use Rattle.artheap_top.specs.Summary.{collection_count, refusal_count, summary, tells_collection}
 
 -- no line was counted
 abbrev pub no_lines : Tally
@@ -37,3 +42,21 @@ pub record HasSoaked (budget : ℕ) (ls : List (List ℕ)) (t : Tally) (machine 
   pub refused : t.refused ≡ refusal_count (answers_of budget ls)
   pub collections : t.collections ≡ collection_count (answers_of budget ls)
   pub stands : StandsFor machine (world_of budget ls)
+
+-- the generated lines were run, and the machine stands for the world after them
+pub record Soaked (budget start count : ℕ) (refused : Bool) (new : Output) : Type 0 where
+  pub refusals : has_refusal (answers_of budget (soak_lines start count)) ≡ refused
+  pub stands : StandsFor new.machine (world_of budget (soak_lines start count))
+
+-- what a soak leaves, by its status. It reads nothing
+abbrev pub EndedSoak : ℕ → ℕ → ℕ → Status → Output → Output → Type 0
+EndedSoak budget start count status.Ok old new = Gained old.gained (summary budget start count) new.gained × Soaked budget start count false new
+EndedSoak budget start count status.Refused old new = Gained old.gained (summary budget start count) new.gained × Soaked budget start count true new
+EndedSoak budget start count status.Usage old new = ⊥
+EndedSoak budget start count status.ReadFault old new = ⊥
+EndedSoak budget start count status.WriteFault old new =
+    GainedPrefix old.gained (summary budget start count) new.gained × StandsFor new.machine (world_of budget (soak_lines start count)) × FaultRose old.write_faults new.write_faults
+EndedSoak budget start count status.OutOfMemory old new = new.gained ≡ old.gained
+EndedSoak budget start count status.ShelfFault old new = ⊥
+EndedSoak budget start count status.NotDump old new = ⊥
+EndedSoak budget start count status.TooLong old new = ⊥

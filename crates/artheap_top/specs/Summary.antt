@@ -8,7 +8,7 @@ use Rattle.heap_world.specs.World.{frame_count}
 use Rattle.plain_machine.specs.Counts.{live_count, live_objects}
 use Rattle.script_make.specs.Script.{soak_lines}
 use Rattle.artheap_top.specs.declared.summary.Summary.{Summary}
-use Rattle.artheap_top.specs.Report.{answers_of, world_of}
+use Rattle.script_report.specs.Report.{answers_of, world_of}
 
 -- a process collected: the replies `#n gc` and `kept K freed F`
 abbrev pub tells_collection : Reply → Bool

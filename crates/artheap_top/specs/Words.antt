@@ -1,6 +1,7 @@
 -- What the words of a call ask for.
 use Rattle.std.specs.Prelude.{ℕ, ◌≤◌, ◌&&◌, List, [], ◌∷◌, Option, None, Some, codes, decimal, nat_le, if◌then◌else◌}
 use Rattle.class_layout.specs.Names.{same_name}
+use Rattle.model_numbers.specs.Numbers.{default_regions, most_regions}
 use Rattle.script_lang.specs.Numbers.{digits_number}
 use Rattle.artheap_top.specs.declared.words.Job.{Job}
 use Rattle.artheap_top.specs.declared.words.Job.TheVariants as job
@@ -11,14 +12,11 @@ number_within least most word =
     let n = digits_number word in
     if same_name (decimal n) word && nat_le least n && nat_le n most then Some n else None
 
-abbrev pub default_regions : ℕ
-default_regions = 64
-
 -- `--regions N`, or nothing
 abbrev pub option_regions : List (List ℕ) → Option ℕ
 option_regions [] = Some default_regions
 option_regions (word ∷ []) = None
-option_regions (word ∷ number ∷ []) = if same_name word (codes "--regions") then number_within 1 512 number else None
+option_regions (word ∷ number ∷ []) = if same_name word (codes "--regions") then number_within 1 most_regions number else None
 option_regions (word ∷ number ∷ more ∷ words) = None
 
 -- a soak of these numbers, where all three are there
@@ -46,5 +44,5 @@ job_of (word ∷ words) = if same_name word (codes "run") then run_of (option_re
 
 -- the numbers of a job are within their bounds
 abbrev pub IsPossible : Job → Type 0
-IsPossible (job.Run regions) = (1 ≤ regions) × (regions ≤ 512)
-IsPossible (job.Soak start count regions) = (start ≤ 2147483647) × (count ≤ 1000000) × (1 ≤ regions) × (regions ≤ 512)
+IsPossible (job.Run regions) = (1 ≤ regions) × (regions ≤ most_regions)
+IsPossible (job.Soak start count regions) = (start ≤ 2147483647) × (count ≤ 1000000) × (1 ≤ regions) × (regions ≤ most_regions)

@@ -1,32 +1,13 @@
-//! The top call: a script from its bytes to its report.
+//! The top call: a job from its words, its input and a new machine, to its report and its status.
 #![tactic(auto)]
 
-mod examples;
-mod laws;
-mod own_examples;
-mod script;
 mod soak;
 mod soak_examples;
-mod status;
-mod step;
-mod stop;
 mod summary;
 mod tally;
 mod top;
 mod words;
 
-pub use laws::{commands_are_answered, scripts_are_isolated};
-pub use plain_machine::Machine;
-pub use status::Status;
+pub use script_report::{commands_are_answered, scripts_are_isolated};
+pub use script_run::{Machine, Status};
 pub use top::artheap;
-
-#[cfg(test)]
-mod faults;
-#[cfg(test)]
-mod rows;
-#[cfg(test)]
-mod sessions;
-#[cfg(test)]
-mod soak_tests;
-#[cfg(test)]
-mod tests;

@@ -1,20 +1,21 @@
 //! A script that is generated from two numbers, and its summary.
-ghost use Rattle.std.specs.Prelude.{◌≡◌, ◌+◌, ◌<◌, ◌≤◌, ◌^◌, ◌++◌, ◌∷◌, [], ℕ, List, IfOk, OnOk};
+ghost use Rattle.std.specs.Prelude.{◌≡◌, ◌+◌, ◌<◌, ◌≤◌, ◌^◌, ◌++◌, ◌∷◌, [], ℕ, List, IfOk, OnOk, length};
 ghost use Rattle.heap_world.specs.World.{empty_world, first_world};
 ghost use Rattle.plain_machine.specs.Worlds.{StandsFor};
 ghost use Rattle.script_make.specs.Boot.{boot_lines};
 ghost use Rattle.script_make.specs.Script.{first_state, made_lines, soak_lines};
-ghost use Rattle.artheap_top.specs.Ends.{EndedSoak};
-ghost use Rattle.artheap_top.specs.Progress.{job_status};
-ghost use Rattle.artheap_top.specs.Soaking.{HasSoaked, IsWithinLines};
+ghost use Rattle.model_numbers.specs.Numbers.{line_limit, most_regions};
+ghost use Rattle.script_run.specs.Outside.{output_of};
+ghost use Rattle.script_run.specs.Status.{job_status};
+ghost use Rattle.artheap_top.specs.Soaking.{EndedSoak, HasSoaked, IsWithinLines};
 
 use crate::Machine;
-use crate::step::step_line;
-use crate::stop::Stop;
 use crate::summary::Summary;
 use crate::tally::Tally;
 use ah_outside::{Failed, Sink};
+use script_lang::Fed;
 use script_make::{MakeState, boot_line, line_of};
+use script_run::{Stop, step_line};
 use std::alloc::{AllocError, Global};
 
 /// Runs the line behind those that were counted, and counts it.
@@ -24,6 +25,7 @@ fn run_line(
     tally: &mut Tally,
     machine: &mut Machine,
 ) -> Result<(), AllocError>
+    requires short { length line.now ≤ line_limit }
     requires few { tally.old.lines < 2 ^ 63 }
     requires within { IsWithinLines tally.old }
     ensures lines { OnOk result (tally.new.lines ≡ tally.old.lines + 1) }
@@ -31,7 +33,11 @@ fn run_line(
     ensures done { (budget : ℕ) (before : List (List ℕ)) → HasSoaked budget before tally.old machine.old →
         OnOk result (HasSoaked budget (before ++ line.now ∷ []) tally.new machine.new) }
 {
-    let reply = step_line(alloc, machine, tally.lines + 1, line)?;
+    let fed = Fed::Line {
+        number: tally.lines + 1,
+        bytes: line,
+    };
+    let reply = step_line(alloc, machine, &fed)?;
     tally.count(reply);
     Ok(())
 }
@@ -108,8 +114,10 @@ pub(crate) fn soak<W: Sink>(
     machine: &mut Machine,
 ) -> Result<bool, Stop>
     requires is_new { StandsFor machine.old empty_world }
-    requires possible { (start ≤ 2147483647) × (count ≤ 1000000) × (1 ≤ regions) × (regions ≤ 512) }
-    ensures ended { EndedSoak regions start count (job_status result) (W.gained sink.old) (W.gained sink.new) (W.fault_count sink.old) (W.fault_count sink.new) machine.new }
+    requires possible { (start ≤ 2147483647) × (count ≤ 1000000) × (1 ≤ regions) × (regions ≤ most_regions) }
+    ensures ended { let old = output_of (W.gained sink.old) (W.fault_count sink.old) machine.old in
+        let new = output_of (W.gained sink.new) (W.fault_count sink.new) machine.new in
+        EndedSoak regions start count (job_status result) old new }
     ensures never_falls { W.fault_count sink.old ≤ W.fault_count sink.new }
 {
     machine.prepare(regions, 1)?;

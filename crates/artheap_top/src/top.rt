@@ -2,15 +2,16 @@ ghost use Rattle.std.specs.Prelude.{◌≡◌, ◌≢◌, ◌↔◌, ◌≤◌, 
 ghost use Rattle.ah_outside.specs.Outside.{FaultRose};
 ghost use Rattle.heap_world.specs.World.{empty_world};
 ghost use Rattle.plain_machine.specs.Worlds.{StandsFor};
-ghost use Rattle.artheap_top.specs.Ends.{EndedRun, EndedSoak, EndsWell, HasFewLeft};
+ghost use Rattle.script_run.specs.Ends.{EndedRun, EndsWell, HasFewLeft};
+ghost use Rattle.script_run.specs.Outside.{outside_of, output_of};
+ghost use Rattle.artheap_top.specs.Soaking.{EndedSoak};
 ghost use Rattle.artheap_top.specs.Words.{job_of};
 
-use crate::script::run_script;
 use crate::soak::soak;
-use crate::stop::job_status;
 use crate::words::{Job, job_of};
 use crate::{Machine, Status};
 use ah_outside::{Shelf, Sink, Source};
+use script_run::{job_status, run_script};
 use std::alloc::Global;
 
 /// Does the job that the words name. The words are those after the program's name.
@@ -36,9 +37,13 @@ pub fn artheap<S: Source, W: Sink, F: Shelf>(
 
     // What a run leaves and what a soak leaves, status by status.
     ensures run { (regions : ℕ) → job_of (map string_bytes words.now) ≡ Some (Job.Run regions) →
-        EndedRun regions result (S.left source.old) (S.left source.new) (S.fault_count source.old) (S.fault_count source.new) (W.gained sink.old) (W.gained sink.new) (W.fault_count sink.old) (W.fault_count sink.new) machine.new }
+        let old = outside_of (S.left source.old) (S.fault_count source.old) (W.gained sink.old) (W.fault_count sink.old) machine.old in
+        let new = outside_of (S.left source.new) (S.fault_count source.new) (W.gained sink.new) (W.fault_count sink.new) machine.new in
+        EndedRun regions result old new }
     ensures soak { (start count regions : ℕ) → job_of (map string_bytes words.now) ≡ Some (Job.Soak start count regions) →
-        (source.new ≡ source.old) × EndedSoak regions start count result (W.gained sink.old) (W.gained sink.new) (W.fault_count sink.old) (W.fault_count sink.new) machine.new }
+        let old = output_of (W.gained sink.old) (W.fault_count sink.old) machine.old in
+        let new = output_of (W.gained sink.new) (W.fault_count sink.new) machine.new in
+        (source.new ≡ source.old) × EndedSoak regions start count result old new }
 
     // The words have no form, and nothing was done.
     ensures usage { (result ≡ Status.Usage) ↔ (job_of (map string_bytes words.now) ≡ None) }

@@ -1,7 +1,9 @@
 ghost use Rattle.std.specs.Prelude.{◌≡◌, ◌≤◌, map, string_bytes, IfSome};
 ghost use Rattle.std.specs.Option.{option_copied};
+ghost use Rattle.model_numbers.specs.Numbers.{most_regions};
 ghost use Rattle.artheap_top.specs.Words.{IsPossible, job_of, number_within, option_regions, run_of, soak_job, soak_of};
 
+use model_numbers::{DEFAULT_REGIONS, MOST_REGIONS};
 use script_lang::read_count;
 
 /// What the words ask for.
@@ -19,9 +21,6 @@ pub(crate) enum Job {
     },
 }
 
-/// The regions of a process where the words don't say.
-const DEFAULT_REGIONS: u32 = 64;
-
 /// The number from `least` to `most` that a word is, in decimal digits without a sign or a leading zero.
 fn number_within(least: u32, most: u32, word: &[u8]) -> Option<u32>
     ensures number { result ≡ number_within least most word.now }
@@ -33,12 +32,12 @@ fn number_within(least: u32, most: u32, word: &[u8]) -> Option<u32>
 /// The regions that the last words ask for.
 fn option_regions(words: &[String]) -> Option<u32>
     ensures regions { result ≡ option_regions (map string_bytes words.now) }
-    ensures few { IfSome result (λ n. (1 ≤ n) × (n ≤ 512)) }
+    ensures few { IfSome result (λ n. (1 ≤ n) × (n ≤ most_regions)) }
 {
     match words {
         [] => Some(DEFAULT_REGIONS),
         [word, number] if word.as_bytes() == b"--regions".as_slice() => {
-            number_within(1, 512, number.as_bytes())
+            number_within(1, MOST_REGIONS, number.as_bytes())
         }
         _ => None,
     }

@@ -7,8 +7,6 @@ mod kind;
 mod name;
 mod placing;
 mod row;
-#[cfg(test)]
-mod tests;
 
 pub use arrays::{array_size, array_unrounded, element_offset};
 pub use classes::{Classes, DefineError, layout_rule};

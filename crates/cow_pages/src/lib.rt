@@ -11,8 +11,6 @@ mod laws;
 mod pool;
 mod store;
 mod table;
-#[cfg(test)]
-mod tests;
 
 pub use address::{Addr, FrameNo, PageNo, TableNo, Window};
 pub use frames::Frames;

@@ -7,8 +7,6 @@ mod laws;
 mod numbers;
 mod read;
 mod sub_record;
-#[cfg(test)]
-mod tests;
 mod top_record;
 mod type_code;
 mod write;

@@ -3,8 +3,6 @@
 
 mod laws;
 mod space;
-#[cfg(test)]
-mod tests;
 
 pub use laws::{new_tables_fit, spaces_keep_sizes, spots_are_sums, spots_stay_apart};
 pub use space::{ImageError, ImageSpace};

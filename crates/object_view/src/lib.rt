@@ -8,8 +8,6 @@ mod headers;
 mod laws;
 mod names;
 mod objects;
-#[cfg(test)]
-mod tests;
 mod values;
 mod words;
 

@@ -10,8 +10,6 @@ mod line_kind;
 mod lines;
 mod put;
 mod state;
-#[cfg(test)]
-mod tests;
 
 pub use boot::boot_line;
 pub use laws::{lines_go_on, lines_have_no_line_feed, script_has_count_lines};

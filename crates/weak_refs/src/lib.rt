@@ -3,8 +3,6 @@
 
 mod clear;
 mod laws;
-#[cfg(test)]
-mod tests;
 
 pub use clear::{KeepTest, clear_dead};
 pub use laws::cleared_references;

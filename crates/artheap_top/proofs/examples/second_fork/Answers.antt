@@ -1,7 +1,0 @@
-use Rattle.std.proofs.Common.{refl}
-use Rattle.std.specs.Fmt.{digits}
-use Rattle.artheap_top.proofs.examples.second_fork.Goals as goal
-
-pub returns : goal.returns
-unfolding digits
-returns c = refl

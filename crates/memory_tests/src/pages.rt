@@ -1,0 +1,48 @@
+//! Pages that tables share, and writes into them.
+use cow_pages::{Addr, Frames, PageNo};
+use std::test::Fail;
+
+const PAGE: PageNo = PageNo(0x20000);
+
+const AT: Addr = Addr(0x20000000);
+
+// What a table and its fork have before and after a write, and what stays once the first is dropped.
+#[test]
+fn forks(rt: HostRuntime) -> Result<(), Fail> {
+    let mut frames = Frames::new(rt.alloc());
+    let before = frames.immune_reads();
+    let t = frames.new_table()?;
+    frames.map_zero(t, PAGE)?;
+    frames.write_u32(t, AT, 7)?;
+    frames.settle(t);
+    let u = frames.fork_table(t)?;
+    assert_eq!(rt; frames.used(), 1);
+    frames.write_u32(u, AT, 9)?;
+    assert_eq!(rt; frames.used(), 2);
+    assert_eq!(rt; frames.read_u32(t, AT), 7);
+    assert_eq!(rt; frames.read_u32(u, AT), 9);
+    assert!(rt; !frames.written(t, PAGE));
+    assert!(rt; frames.written(u, PAGE));
+    frames.drop_table(t);
+    assert_eq!(rt; frames.used(), 1);
+    assert_eq!(rt; frames.immune_reads(), before + 2);
+    Ok(())
+}
+
+// Frames that are reserved, and writes of three sizes over one another, the lowest byte first.
+#[test]
+fn reserves_and_writes(rt: HostRuntime) -> Result<(), Fail> {
+    let mut frames = Frames::new(rt.alloc());
+    frames.reserve(3)?;
+    assert_eq!(rt; frames.spare(), 3);
+    let t = frames.new_table()?;
+    frames.map_zero(t, PageNo(0x40000))?;
+    frames.write_u64(t, Addr(0x40000ff8), 0x0102030405060708)?;
+    frames.write_u16(t, Addr(0x40000ffa), 0x1234)?;
+    frames.write_u8(t, Addr(0x40000fff), 0xa5)?;
+    assert_eq!(rt; frames.read_u64(t, Addr(0x40000ff8)), 0xa502030412340708);
+    assert_eq!(rt; frames.read_u8(t, Addr(0x40000ffa)), 0x34);
+    assert_eq!(rt; frames.spare(), 2);
+    assert_eq!(rt; frames.immune_reads(), 0);
+    Ok(())
+}

@@ -1,0 +1,9 @@
+//! Tests of the forms and adapters of sources, sinks and shelves.
+#![tactic(auto)]
+
+#[cfg(test)]
+mod forms;
+#[cfg(test)]
+mod readers;
+#[cfg(test)]
+mod writers;

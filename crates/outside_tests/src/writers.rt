@@ -1,0 +1,76 @@
+//! Writers as sinks, and files as entries of a shelf.
+use ah_outside::{BufferedSink, Failed, FolderShelf, SharedWriter, Shelf, Sink, WriteSink};
+use std::io::BufWriter;
+use std::os::unix::fs::symlink;
+use std::test::Fail;
+use std::{fs, io};
+
+#[test]
+fn writes_and_flushes(rt: HostRuntime) -> Result<(), Fail> {
+    let mut out = Vec::new(rt.alloc());
+    let mut sink = WriteSink::new(BufWriter::new(rt.alloc(), &mut out)?);
+    assert_eq!(rt; sink.put(b"abc"), Ok(3));
+    assert_eq!(rt; sink.put(b""), Ok(0));
+    assert_eq!(rt; sink.flush(), Ok(()));
+    assert_eq!(rt; sink.faults(), 0);
+    drop(sink);
+    assert_eq!(rt; out.as_slice(), b"abc".as_slice());
+    Ok(())
+}
+
+#[test]
+fn counts_what_is_not_taken(rt: HostRuntime) {
+    let mut room = [0; 4];
+    let mut sink = WriteSink::new(&mut room[..]);
+    let expected = [(Ok(3), 0), (Ok(1), 0), (Err(Failed), 1), (Err(Failed), 2)];
+    for (answer, faults) in expected {
+        assert_eq!(rt; sink.put(b"abc"), answer);
+        assert_eq!(rt; sink.faults(), faults);
+    }
+}
+
+#[test]
+fn holds_back_and_counts_what_is_not_taken(rt: HostRuntime) -> io::Result<()> {
+    let mut room = [0; 4];
+    let writer = SharedWriter::new(rt.alloc(), 8, &mut room[..])?;
+    let mut sink = BufferedSink::new(&writer);
+    // what is put, what the call answers, and how many faults there were: only the first six bytes are ever
+    // held back, and four of them find room
+    let expected: [(&[u8], Result<usize, Failed>, u64); 4] = [
+        (b"abc", Ok(3), 0),
+        (b"def", Ok(3), 0),
+        (b"ghi", Err(Failed), 1),
+        (b"", Ok(0), 1),
+    ];
+    for (piece, answer, faults) in expected {
+        assert_eq!(rt; sink.put(piece), answer);
+        assert_eq!(rt; sink.faults(), faults);
+        assert_eq!(rt; writer.has_failed(), faults > 0);
+    }
+    assert_eq!(rt; writer.flush(), Err(Failed));
+    drop(writer);
+    assert_eq!(rt; room, *b"abcd");
+    Ok(())
+}
+
+#[test]
+fn makes_files_in_place_of_others(rt: HostRuntime) -> Result<(), Fail> {
+    let (target, first, second) = ("folder_shelf.0", "folder_shelf.1", "folder_shelf.2");
+    fs::write(&rt, target, "kept")?;
+    fs::write(&rt, first, "what stood there before")?;
+    symlink(&rt, target, second)?;
+    let mut shelf = FolderShelf::new(&rt);
+    assert_eq!(rt; shelf.begin(first.as_bytes()), Ok(()));
+    assert_eq!(rt; shelf.put(b"abc"), Ok(()));
+    assert_eq!(rt; shelf.put(b"de"), Ok(()));
+    assert_eq!(rt; shelf.finish(), Ok(()));
+    assert_eq!(rt; shelf.begin(second.as_bytes()), Ok(()));
+    assert_eq!(rt; shelf.finish(), Ok(()));
+    assert_eq!(rt; shelf.begin(b"folder/file"), Err(Failed));
+    assert_eq!(rt; shelf.faults(), 1);
+    for (name, text) in [(target, "kept"), (first, "abcde"), (second, "")] {
+        assert_eq!(rt; fs::read_to_string(&rt, name)?.as_str(), text);
+        fs::remove_file(&rt, name)?;
+    }
+    Ok(())
+}

@@ -1,0 +1,6 @@
+pub mod OwnAlone
+pub mod OwnCommands
+pub mod OwnText
+pub mod OwnTold
+pub mod Picked
+pub mod Reports

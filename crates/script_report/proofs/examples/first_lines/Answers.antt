@@ -1,0 +1,7 @@
+use Rattle.std.proofs.Common.{refl}
+use Rattle.std.specs.Fmt.{digits}
+use Rattle.script_report.proofs.examples.first_lines.Goals as goal
+
+pub returns : goal.returns
+unfolding digits
+returns c = refl

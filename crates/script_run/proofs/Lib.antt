@@ -1,0 +1,5 @@
+pub mod Inputs
+pub mod LastLine
+pub mod Lines
+pub mod Outside
+pub mod Pieces

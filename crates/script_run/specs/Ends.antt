@@ -1,0 +1,113 @@
+-- How a run of a script may end, and what it leaves: each ending relates what was outside before the run to what is there after it.
+use Rattle.std.specs.Prelude.{◌≡◌, ◌≢◌, ◌⊎◌, ℕ, ◌+◌, ◌<◌, ◌≤◌, Bool, true, false, List, [], ◌∷◌, ◌++◌, Option, IfSome, IsSomeAnd, length, map, take}
+use Rattle.ah_outside.specs.Outside.{FaultRose, Gave, Gained}
+use Rattle.model_numbers.specs.Numbers.{input_limit, piece_bytes}
+use Rattle.heap_world.specs.Isolation.{NoNameTaken}
+use Rattle.plain_machine.specs.Worlds.{StandsFor}
+use Rattle.script_lang.specs.Parts.{lines, whole_lines}
+use Rattle.script_report.specs.Own.{AreAloneIn, told_by_script}
+use Rattle.script_report.specs.Report.{answers, answers_of, last_world, has_refusal, line_report, report_of, world_of}
+use Rattle.script_run.specs.declared.status.Status.{Status}
+use Rattle.script_run.specs.declared.status.Status.TheVariants as status
+use Rattle.script_run.specs.Outside.{Outside, Output}
+
+-- the source tells what it has left, and that is no longer than an input may be
+abbrev pub HasFewLeft : Option (List ℕ) → Type 0
+HasFewLeft left = IsSomeAnd left (λ text. length text ≤ input_limit)
+
+-- nothing is left, where the source tells it
+abbrev pub NothingLeft : Option (List ℕ) → Type 0
+NothingLeft left = IfSome left (λ rest. rest ≡ [])
+
+-- the answers of a job that was neither refused for its words nor stopped by a fault or by its input's length
+abbrev pub EndsWell : Status → Type 0
+EndsWell status.Ok = Unit {0}
+EndsWell status.Refused = Unit {0}
+EndsWell status.Usage = ⊥
+EndsWell status.ReadFault = ⊥
+EndsWell status.WriteFault = ⊥
+EndsWell status.OutOfMemory = Unit {0}
+EndsWell status.ShelfFault = ⊥
+EndsWell status.NotDump = ⊥
+EndsWell status.TooLong = ⊥
+
+-- lines were run: the sink has gained their report, and the machine stands for the world after them
+pub record RanLines (budget : ℕ) (ls : List (List ℕ)) (old new : Output) : Type 0 where
+  pub report : Gained old.gained (report_of (answers_of budget ls)) new.gained
+  pub stands : StandsFor new.machine (world_of budget ls)
+
+-- the whole input was taken, and its lines were run. Where no fork was refused since its name was taken, each process
+-- that was made answered, but for counts of frames, and is what its own lines alone make of it
+pub record RanToEnd (budget : ℕ) (refused : Bool) (old new : Outside) : Type 0 where
+  pub text : List ℕ
+  pub gave : Gave old.left text new.left
+  pub nothing_left : NothingLeft new.left
+  pub fits : length text ≤ input_limit
+  pub ran : RanLines budget (lines text) old.output new.output
+  pub refusals : has_refusal (answers_of budget (lines text)) ≡ refused
+  pub isolated : NoNameTaken (answers budget text) → AreAloneIn budget text (told_by_script budget text)
+  pub told : map (λ t. t.name) (told_by_script budget text) ≡ map (λ q. q.name) (last_world budget text).processes
+
+-- a read failed: every line whose line feed had been taken was run
+pub record StoppedReading (budget : ℕ) (old new : Outside) : Type 0 where
+  pub taken : List ℕ
+  pub gave : Gave old.left taken new.left
+  pub fits : length taken ≤ input_limit
+  pub ran : RanLines budget (whole_lines taken) old.output new.output
+
+-- more bytes were taken than are allowed, by one piece at most: every line whose line feed is within the limit was run
+pub record TookTooMany (budget : ℕ) (old new : Outside) : Type 0 where
+  pub taken : List ℕ
+  pub gave : Gave old.left taken new.left
+  pub too_many : input_limit < length taken
+  pub barely : length taken ≤ input_limit + piece_bytes
+  pub ran : RanLines budget (whole_lines (take input_limit taken)) old.output new.output
+
+-- how far an input was taken for these lines: up to and with the line feed of the last one, which is within the limit,
+-- and fewer bytes behind than a piece has; at the end of the input the last line may lack its line feed
+pub record CameTo (old new : Outside) (ls : List (List ℕ)) : Type 0 where
+  pub upto : List ℕ
+  pub behind : List ℕ
+  pub gave : Gave old.left (upto ++ behind) new.left
+  pub got : lines upto ≡ ls
+  pub ended : (whole_lines upto ≡ ls) ⊎ ((behind ≡ []) × NothingLeft new.left)
+  pub within : length upto ≤ input_limit
+  pub few : length behind < piece_bytes
+
+-- the report of lines was put, and the first bytes of that of the next one, which has one; the machine stands for the
+-- world after it
+pub record PutBehind (budget : ℕ) (before : List (List ℕ)) (line : List ℕ) (old new : Output) : Type 0 where
+  pub replied : line_report budget before line ≢ []
+  pub told : ℕ
+  pub report : Gained old.gained (report_of (answers_of budget before) ++ take told (line_report budget before line)) new.gained
+  pub stands : StandsFor new.machine (world_of budget (before ++ line ∷ []))
+
+-- a write failed: the line has a reply, was run behind the others, and of its report the first bytes were put
+pub record StoppedWriting (budget : ℕ) (old new : Outside) : Type 0 where
+  pub before : List (List ℕ)
+  pub line : List ℕ
+  pub came : CameTo old new (before ++ line ∷ [])
+  pub put : PutBehind budget before line old.output new.output
+
+-- nothing was taken, and no line was run
+pub record NotBegun (old new : Outside) (before : List (List ℕ)) : Type 0 where
+  pub nothing_taken : new.left ≡ old.left
+  pub no_line : before ≡ []
+
+-- memory was wanting, before the first line or for the line behind those that were run; their whole report was put
+pub record StoppedForMemory (budget : ℕ) (old new : Outside) : Type 0 where
+  pub before : List (List ℕ)
+  pub came : NotBegun old new before ⊎ ((line : List ℕ) × CameTo old new (before ++ line ∷ []))
+  pub report : Gained old.output.gained (report_of (answers_of budget before)) new.output.gained
+
+-- what a run leaves, by its status
+abbrev pub EndedRun : ℕ → Status → Outside → Outside → Type 0
+EndedRun budget status.Ok old new = RanToEnd budget false old new
+EndedRun budget status.Refused old new = RanToEnd budget true old new
+EndedRun budget status.Usage old new = ⊥
+EndedRun budget status.ReadFault old new = StoppedReading budget old new × FaultRose old.read_faults new.read_faults
+EndedRun budget status.WriteFault old new = StoppedWriting budget old new × FaultRose old.output.write_faults new.output.write_faults
+EndedRun budget status.OutOfMemory old new = StoppedForMemory budget old new
+EndedRun budget status.ShelfFault old new = ⊥
+EndedRun budget status.NotDump old new = ⊥
+EndedRun budget status.TooLong old new = TookTooMany budget old new

@@ -1,0 +1,4 @@
+pub mod Ends
+pub mod Outside
+pub mod Progress
+pub mod Status

@@ -1,0 +1,16 @@
+//! The running of a script: its bytes are taken from a source, its lines are run on a machine as they come, and their
+//! replies are put to a sink.
+#![tactic(auto)]
+
+mod input;
+mod line;
+mod piece;
+mod script;
+mod status;
+mod stop;
+
+pub use line::step_line;
+pub use plain_machine::Machine;
+pub use script::run_script;
+pub use status::Status;
+pub use stop::{Stop, job_status};
