@@ -1,0 +1,5 @@
+mod Behind
+mod Apart
+mod Packed
+mod Fitting
+mod Homes
