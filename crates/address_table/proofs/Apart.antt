@@ -35,10 +35,13 @@ module _ (homes : Homes) (cs : List Class) (budget last : ℕ) (regions : AreNum
     where
       some : 8 ≤ size_of_object cs x
       some = size-least cs x
+
       more : 8 ≤ size_of_object cs o
       more = size-least cs o
+
       slot : (k : ℕ) → large < length homes.slots → large + 1 ≤ k → k < length homes.slots → slot_at homes.slots large ≡ slot_at homes.slots k → ⊥
       slot k here above there same = let once = slot-once large k here there same in omega (arith, once, above)
+
       by : (p q : Place) → IsBehindImage image p → IsBehindZygote zygote p → Behind homes cs budget last image zygote end large x p (address_in homes cs end large x p)
           → Behind homes cs budget last (image + image_size cs x p) (zygote_next cs zygote x p) (end_behind cs end x p) (large_behind large p) o q address
           → address_in homes cs end large x p ≡ address → ⊥

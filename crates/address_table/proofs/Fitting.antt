@@ -112,8 +112,7 @@ module _ (homes : Homes) (g : Graph) (formed : IsFormed g) (house : HouseAll hom
           let p-region = region-below homes g.classes g.budget (last_end g.classes 0 g.objects) house.regions house.slots few roomy p.1 p-is.3 in
           let q-region = region-below homes g.classes g.budget (last_end g.classes 0 g.objects) house.regions house.slots few roomy q.1 q-is.3 in
           let p-of : region_of (table_of homes g p.0) ≡ slice_index homes.regions (p.1 / 262144) = ap region_of p-is.2 ∙ region-of p.1 p-is.3 in
-          let q-of : region_of (table_of homes g q.0) ≡ slice_index homes.regions (q.1 / 262144) = ap region_of q-is.2 ∙ region-of q.1 q-is.3 in
-          (
+          let q-of : region_of (table_of homes g q.0) ≡ slice_index homes.regions (q.1 / 262144) = ap region_of q-is.2 ∙ region-of q.1 q-is.3 in (
             (λ e. house.regions.1 (p.1 / 262144) (q.1 / 262144) p-region.0 q-region.0 (sym p-of ∙ e ∙ q-of)),
             (λ e. p-of ∙ ap (λ i. slice_index homes.regions i) e ∙ sym q-of),
           )

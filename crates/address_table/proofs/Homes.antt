@@ -23,9 +23,9 @@ are-numbers : (n most : ℕ) → n ≤ most → AreNumbers most (count_from 0 n)
 are-numbers n most le = (
   (λ i less. let is = count-index 0 n i (omega (arith, less, length-count 0 n)) in omega (arith, is, less, length-count 0 n)),
   (λ i j i-less j-less e.
-    let i-is = count-index 0 n i (omega (arith, i-less, length-count 0 n)) in
-    let j-is = count-index 0 n j (omega (arith, j-less, length-count 0 n)) in
-    omega (arith, i-is, j-is, e)),
+      let i-is = count-index 0 n i (omega (arith, i-less, length-count 0 n)) in
+      let j-is = count-index 0 n j (omega (arith, j-less, length-count 0 n)) in
+      omega (arith, i-is, j-is, e)),
 )
 
 -- each large object costs a region

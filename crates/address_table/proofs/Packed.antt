@@ -57,5 +57,5 @@ module _ (homes : Homes) (cs : List Class) (last : ℕ) where
           let rises = last-rises cs (after end s) os in
           let some = size-least cs x in
           let here : table_from homes cs end large (x ∷ os) x.number ≡ packed_at homes.regions (packing.place end s) =
-              table-first homes cs end large x os ∙ ap (λ (at : Place). address_in homes cs end large x at) e in
+          table-first homes cs end large x os ∙ ap (λ (at : Place). address_in homes cs end large x at) e in
           subst (λ (q : ℕ × ℕ). IsPacked end large (x ∷ os) q) is (x, (inl refl, refl, here, omega (arith, rises, fits, some)))
