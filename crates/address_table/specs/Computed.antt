@@ -1,12 +1,11 @@
 -- The table of addresses of a graph, computed from where a process keeps what may stand in several places.
 use Rattle.std.specs.Prelude.{◌≡◌, ℕ, ◌+◌, ◌*◌, ◌/◌, ◌%◌, ◌<◌, ◌≤◌, List, [], ◌∷◌, cond, length, nat_eq, slice_index}
+use Rattle.model_numbers.specs.Numbers.{large_base, large_slot_bytes, large_slot_count, region_base, region_bytes}
 use Rattle.class_layout.specs.ClassList.{Class}
 use Rattle.heap_graph.specs.declared.names.Place.{Place}
 use Rattle.heap_graph.specs.declared.names.Place.TheVariants.{Image, Zygote, Young, Large, Promoted}
 use Rattle.heap_graph.specs.Graph.{Graph, Object, size_of_object}
 use Rattle.heap_graph.specs.Packing.{after, place, used}
-use Rattle.heap_graph.specs.Sizes.{region_bytes}
-use Rattle.heap_graph.specs.Table.{region_base, slot_base, slot_bytes}
 use Rattle.heap_world.specs.Pages.{count_from}
 
 -- which region of the window each packing region is, and which slot each large object has, by rising number
@@ -20,7 +19,7 @@ packed_at regions p = region_base + slice_index regions (p / region_bytes) * reg
 
 -- the address of the k-th large object
 abbrev pub slot_at : List ℕ → ℕ → ℕ
-slot_at slots k = slot_base + slice_index slots k * slot_bytes
+slot_at slots k = large_base + slice_index slots k * large_slot_bytes
 
 -- the address of an object behind young ones that end there, and behind so many large ones
 abbrev pub address_in : Homes → List Class → ℕ → ℕ → Object → Place → ℕ
@@ -71,10 +70,10 @@ AreNumbers most ks =
 -- there is a region of the window for each that is used, and one of the 512 slots for each large object
 pub record HouseAll (homes : Homes) (g : Graph) : Type 0 where
   pub regions : AreNumbers (2 * g.budget) homes.regions
-  pub slots : AreNumbers 512 homes.slots
+  pub slots : AreNumbers large_slot_count homes.slots
   pub for_young : used g ≤ length homes.regions
   pub for_large : large_count 0 g.objects ≤ length homes.slots
 
 -- the first regions of the window in their order, and the slots in theirs
 abbrev pub first_homes : Graph → Homes
-first_homes g = record { regions = count_from 0 g.budget; slots = count_from 0 512 }
+first_homes g = record { regions = count_from 0 g.budget; slots = count_from 0 large_slot_count }

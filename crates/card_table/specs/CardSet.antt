@@ -1,5 +1,6 @@
 -- A card table: which cards are dirty, in a span of addresses. Card k has the 1,024 addresses from 1024 * k on.
 use Rattle.std.specs.Prelude.{◌≡◌, ℕ, ◌+◌, ◌-◌, ◌*◌, ◌/◌, ◌%◌, ◌^◌, ◌<◌, ◌≤◌, Bool, ◌&&◌, ◌==◌, nat_le, nat_lt, IsTrue}
+use Rattle.model_numbers.specs.Numbers.{card_bytes}
 use Rattle.bit_set.specs.Bits.{Bits, room, is_member}
 
 -- where the span starts, how many bytes it has, and the bits, one for each card
@@ -10,7 +11,7 @@ pub record CardSet : Type 0 where
 
 -- the card in which an address lies
 abbrev pub card_of : ℕ → ℕ
-card_of at = at / 1024
+card_of at = at / card_bytes
 
 -- the address lies in the span
 pub record IsInSpan (c : CardSet) (at : ℕ) : Type 0 where
@@ -19,15 +20,15 @@ pub record IsInSpan (c : CardSet) (at : ℕ) : Type 0 where
 
 -- the card is dirty
 unfoldable pub is_dirty : CardSet → ℕ → Bool
-is_dirty c card = nat_le (card_of c.start) card && (nat_lt (1024 * card) (c.start + c.span) && is_member c.bits (card - card_of c.start))
+is_dirty c card = nat_le (card_of c.start) card && (nat_lt (card_bytes * card) (c.start + c.span) && is_member c.bits (card - card_of c.start))
 
 -- a dirty card starts at the address
 unfoldable pub is_dirty_start : CardSet → ℕ → Bool
-is_dirty_start c at = (at % 1024 == 0) && is_dirty c (card_of at)
+is_dirty_start c at = (at % card_bytes == 0) && is_dirty c (card_of at)
 
 -- which card of the span, counted from 0, is the first that starts at or above the address
 abbrev pub first_card : CardSet → ℕ → ℕ
-first_card c at = (at - c.start + 1023) / 1024
+first_card c at = (at - c.start + (card_bytes - 1)) / card_bytes
 
 -- the span is the same
 abbrev pub SameSpan : CardSet → CardSet → Type 0
@@ -35,13 +36,13 @@ SameSpan old new = (new.start ≡ old.start) × (new.span ≡ old.span)
 
 -- the span begins with a card and ends within 32 bits, and dirty cards start in it
 pub record IsWellPlaced (c : CardSet) : Type 0 where
-  pub aligned : c.start % 1024 ≡ 0
+  pub aligned : c.start % card_bytes ≡ 0
   pub bounded : c.start + c.span ≤ 2 ^ 32
-  pub cards : (card : ℕ) → IsTrue (is_dirty c card) → IsInSpan c (1024 * card)
+  pub cards : (card : ℕ) → IsTrue (is_dirty c card) → IsInSpan c (card_bytes * card)
 
 -- what a card table keeps: the bits have room for the span, and none is set past it
 pub record IsSound (start span : ℕ) (bits : Bits) : Type 0 where
-  pub aligned : start % 1024 ≡ 0
+  pub aligned : start % card_bytes ≡ 0
   pub bounded : start + span ≤ 2 ^ 32
-  pub roomy : span ≤ 1024 * room bits
-  pub inside : (k : ℕ) → IsTrue (is_member bits k) → 1024 * k < span
+  pub roomy : span ≤ card_bytes * room bits
+  pub inside : (k : ℕ) → IsTrue (is_member bits k) → card_bytes * k < span

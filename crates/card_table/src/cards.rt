@@ -1,10 +1,8 @@
 use bit_set::BitSet;
 use cow_pages::Addr;
+use model_numbers::CARD_BYTES;
 use std::alloc::{AllocError, Global};
 use std::marker::Model;
-
-/// How many bytes a card has.
-const CARD_SIZE: usize = 1024;
 
 /// A card table: the set of the dirty cards of a span of at most 4 GiB that ends within 32 bits.
 #[derive(Drop)]
@@ -26,12 +24,13 @@ impl Model for Cards {
 
 impl Cards {
     ghost use Rattle.std.specs.Prelude.{◌≡◌, ℕ, ◌+◌, ◌%◌, ◌^◌, ◌≤◌, ◌↔◌, ◌==◌, ◌||◌, max, IsFalse, IsNone, IsOk, IfOk, IfSome, OnOk, OnErr};
+    ghost use Rattle.model_numbers.specs.Numbers.{card_bytes};
     ghost use Rattle.card_table.specs.CardSet.{card_of, is_dirty, is_dirty_start, first_card, IsInSpan, SameSpan, IsWellPlaced};
     ghost use Rattle.bit_set.specs.Tests.{NoneFrom, IsLeastFrom};
 
     /// A table with an empty span that starts at `from`. It takes no memory.
     pub fn new(alloc: Global, from: Addr) -> Cards
-        requires { from.0 % 1024 ≡ 0 }
+        requires { from.0 % card_bytes ≡ 0 }
         ensures span { (result.start ≡ from.0) × (result.span ≡ 0) }
         ensures clean { (card : ℕ) → IsFalse (is_dirty result card) }
     {
@@ -52,7 +51,7 @@ impl Cards {
         ensures there { bytes ≤ self.old.span → IsOk result × (self.new ≡ self.old) }
     {
         if bytes > self.bytes {
-            self.bits.grow((bytes as usize).div_ceil(CARD_SIZE))?;
+            self.bits.grow(bytes.div_ceil(CARD_BYTES) as usize)?;
             self.bytes = bytes;
         }
         Ok(())
@@ -76,7 +75,7 @@ impl Cards {
         ensures card { (card : ℕ) → is_dirty self.new card ≡ (card == card_of at.0 || is_dirty self.old card) }
         ensures same_span { SameSpan self.old self.new }
     {
-        self.bits.insert((at.0 - self.from) as usize / CARD_SIZE);
+        self.bits.insert(((at.0 - self.from) / CARD_BYTES) as usize);
     }
 
     /// Whether the card of `at` is dirty.
@@ -84,7 +83,8 @@ impl Cards {
         requires { IsInSpan self.now at.0 }
         ensures { result ≡ is_dirty self.now (card_of at.0) }
     {
-        self.bits.contains((at.0 - self.from) as usize / CARD_SIZE)
+        self.bits
+            .contains(((at.0 - self.from) / CARD_BYTES) as usize)
     }
 
     /// Makes every card clean.
@@ -102,14 +102,14 @@ impl Cards {
         ensures well_placed { IsWellPlaced self.now }
     {
         let k = self.bits.next_from(self.first_card(from))?;
-        Some(Addr(self.from + (CARD_SIZE * k) as u32))
+        Some(Addr(self.from + CARD_BYTES * k as u32))
     }
 
     /// Which card of the span, counted from 0, is the first that starts at or above `at`.
     fn first_card(&self, at: Addr) -> usize
         ensures { result ≡ first_card self.now at.0 }
     {
-        (at.0.saturating_sub(self.from) as usize).div_ceil(CARD_SIZE)
+        at.0.saturating_sub(self.from).div_ceil(CARD_BYTES) as usize
     }
 }
 

@@ -2,6 +2,7 @@
 use Rattle.std.proofs.Common.{◌≡◌, ℕ, zero, suc, ◌+◌, ◌*◌, ◌<◌, ◌≤◌, ◌⊎◌, Bool, false, ◌||◌, is_some, List, [], ◌∷◌, ◌++◌, Some, IfSome, Ok, length, nat_eq, slice_get, unwrap_or, refl, sym, ap, subst, ◌∙◌, inl, inr, arith, length-append, append_assoc, lit≤}
 use Rattle.std.proofs.lemmas.Option.{slice_get_past}
 use Rattle.std.proofs.lemmas.Bool.{cases_order, lt-leb}
+use Rattle.model_numbers.specs.Numbers.{class_limit, field_limit}
 use Rattle.class_layout.specs.declared.kind.FieldDecl.{FieldDecl}
 use Rattle.class_layout.specs.Layout.{bare, lay_out}
 use Rattle.class_layout.specs.Names.{same_name}
@@ -46,7 +47,7 @@ IsClassList-builtin = record {
     ends (suc zero) = lit≤ tt
     ends (suc (suc k)) = omega arith
 
-module _ (cs : List Class) (name : List ℕ) (p : ℕ) (fs : List FieldDecl) (formed : IsClassList cs) (new : IsDefinable cs name p fs) (short : length fs ≤ 4096) where
+module _ (cs : List Class) (name : List ℕ) (p : ℕ) (fs : List FieldDecl) (formed : IsClassList cs) (new : IsDefinable cs name p fs) (short : length fs ≤ field_limit) where
   abbrev pub added : Class
   added = record { name = name; parent = Some p; fields = fs }
 
@@ -107,6 +108,6 @@ define_class-definable cs name parent p fs found new =
     let c : Class = record { name = name; parent = Some p; fields = fs } in
     ap (λ o. define_new cs name parent fs (is_some o)) new.fresh
     ∙ ap (λ o. define_under cs name o fs) found
-    ∙ ap (define_after_limit cs name p fs) (lt-leb 65536 (length cs) new.room)
+    ∙ ap (define_after_limit cs name p fs) (lt-leb class_limit (length cs) new.room)
     ∙ ap (λ b. define_after_fields cs c (b || occurs_in (layout_of cs p) fs)) new.once
     ∙ ap (define_after_fields cs c) new.apart

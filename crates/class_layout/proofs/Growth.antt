@@ -5,6 +5,7 @@ use Rattle.std.specs.List.{count_by}
 use Rattle.std.proofs.lemmas.List.{map-append, length-map}
 use Rattle.std.proofs.lemmas.List.Sums.{count_by-le-length}
 use Rattle.std.proofs.lemmas.Option.{none-some}
+use Rattle.model_numbers.specs.Numbers.{field_limit}
 use Rattle.indexmap.specs.IndexMap.{insert_entry}
 use Rattle.indexmap.proofs.MapLemmas.{some_index}
 use Rattle.class_layout.specs.declared.kind.Kind.{Kind}
@@ -48,7 +49,7 @@ rank_of-less k = elim k as (λ k. rank_of k < 5) [ Ref ↦ lit< tt | _ ↦ lit< 
 module _ (all : List Class) (k p : ℕ) (name : List ℕ) (fs : List FieldDecl) (sup : Laid) (before row : Row) (behind : IsBehind p before fs row)
     (at : slice_get all k ≡ Some (record { name = name; parent = Some p; fields = fs })) (laid-is : layout_of all k ≡ lay_out (nat_eq k 1) sup fs)
     (once : names_repeat (layout_of all k).fields ≡ false) (sup-is : superclass_layout all (Some p) ≡ sup) (end-is : sup.end ≡ before.end)
-    (refs-before : length (references sup) ≡ before.refs_before + before.refs) (few : before.refs_before + before.refs + length fs ≤ 4096 * (k + 1)) (room : sup.end + 4 * length fs ≤ 61440 * (k + 1)) where
+    (refs-before : length (references sup) ≡ before.refs_before + before.refs) (few : before.refs_before + before.refs + length fs ≤ field_limit * (k + 1)) (room : sup.end + 4 * length fs ≤ 61440 * (k + 1)) where
   abbrev weak : Bool
   weak = nat_eq k 1
 
@@ -89,7 +90,7 @@ module _ (all : List Class) (k p : ℕ) (name : List ℕ) (fs : List FieldDecl) 
   }
 
 -- a class that is added to a list
-pub IsRow-new : (cs : List Class) (name : List ℕ) (p : ℕ) (fs : List FieldDecl) (super_name : List ℕ) (before row : Row) → IsClassList cs → IsDefinable cs name p fs → length fs ≤ 4096
+pub IsRow-new : (cs : List Class) (name : List ℕ) (p : ℕ) (fs : List FieldDecl) (super_name : List ℕ) (before row : Row) → IsClassList cs → IsDefinable cs name p fs → length fs ≤ field_limit
     → IsRow cs p super_name before → IsBehind p before fs row → IsRow (cs ++ record { name = name; parent = Some p; fields = fs } ∷ []) (length cs) name row
 IsRow-new cs name p fs super_name before row formed new short above behind =
     let last : Class = record { name = name; parent = Some p; fields = fs } in
@@ -144,7 +145,7 @@ AreRows-builtin object weak_reference header behind =
         IsRow-behind builtin_classes 1 0 weak_reference_name (record { name = referent_name; kind = Ref } ∷ []) bare object weak_reference behind
         refl refl refl refl (sym header.end)
         (sym (let none : object.refs_before + object.refs ≡ 0 = omega (arith, header.refs_before, header.refs) in none))
-        (let few : object.refs_before + object.refs + 1 ≤ 4096 * (1 + 1) = omega (arith, header.refs_before, header.refs) in few)
+        (let few : object.refs_before + object.refs + 1 ≤ field_limit * (1 + 1) = omega (arith, header.refs_before, header.refs) in few)
         (let room : 8 + 4 * 1 ≤ 61440 * (1 + 1) = omega arith in room)
 
     rows : (k : ℕ) → IfSome (slice_get (builtin_rows object weak_reference) k) (λ e. IsRow builtin_classes k e.0 e.1)
@@ -153,7 +154,7 @@ AreRows-builtin object weak_reference header behind =
     rows (suc (suc k)) = tt
 
 -- the map's entries stand for the classes, with one added
-pub AreRows-push : (es : List (List ℕ × Row)) (name : List ℕ) (p : ℕ) (fs : List FieldDecl) (super_name : List ℕ) (before row : Row) → AreRows es → IsDefinable (classes_of es) name p fs → length fs ≤ 4096
+pub AreRows-push : (es : List (List ℕ × Row)) (name : List ℕ) (p : ℕ) (fs : List FieldDecl) (super_name : List ℕ) (before row : Row) → AreRows es → IsDefinable (classes_of es) name p fs → length fs ≤ field_limit
     → IsRow (classes_of es) p super_name before → IsBehind p before fs row → AreRows (es ++ (name, row) ∷ [])
 AreRows-push es name p fs super_name before row rows new short above behind =
     let cs = classes_of es in

@@ -1,6 +1,7 @@
 -- A list of classes. A class's number is its place in the list, from 0.
 use Rattle.std.specs.Prelude.{◌≡◌, ℕ, ◌+◌, ◌*◌, ◌<◌, ◌≤◌, Bool, true, false, ◌||◌, List, [], ◌∷◌, ◌++◌, Option, None, Some, Result, Ok, Err, IfSome, length, map, nat_eq, nat_le, slice_get, is_some, unwrap_or, position}
 use Rattle.std.specs.List.{list_any}
+use Rattle.model_numbers.specs.Numbers.{class_limit}
 use Rattle.class_layout.specs.declared.kind.Kind.TheVariants.{Ref}
 use Rattle.class_layout.specs.declared.kind.FieldDecl.{FieldDecl}
 use Rattle.class_layout.specs.declared.classes.DefineError.{DefineError}
@@ -79,7 +80,7 @@ define_after_limit cs name p fs false =
 -- the step before that: whether the superclass is known, and by which number
 abbrev pub define_under : List Class → List ℕ → Option ℕ → List FieldDecl → Result (List Class) DefineError
 define_under cs name None fs = Err NoSuper
-define_under cs name (Some p) fs = define_after_limit cs name p fs (nat_le 65536 (length cs))
+define_under cs name (Some p) fs = define_after_limit cs name p fs (nat_le class_limit (length cs))
 
 -- the first step: whether a class has the name
 abbrev pub define_new : List Class → List ℕ → List ℕ → List FieldDecl → Bool → Result (List Class) DefineError
@@ -108,7 +109,7 @@ names_repeat (p ∷ ps) = list_any (λ q. same_name q.name p.name) ps || names_r
 -- what holds of each list that `define` can make
 pub record IsClassList (cs : List Class) : Type 0 where
   pub builtin : (rest : List Class) × (cs ≡ builtin_classes ++ rest)
-  pub few : length cs ≤ 65536
+  pub few : length cs ≤ class_limit
   -- each superclass stands before its class, and class 0 alone has none
   pub parents : (k : ℕ) → IfSome (slice_get cs k) (λ c. IsEarlier k c.parent)
   -- the class of a class's name is that class

@@ -1,5 +1,6 @@
 -- What is kept of each class, and what it says.
 use Rattle.std.specs.Prelude.{◌≡◌, ℕ, ◌+◌, ◌*◌, ◌<◌, ◌≤◌, Bool, List, Some, IfSome, length, map, nat_eq, slice_get, slice_index}
+use Rattle.model_numbers.specs.Numbers.{field_limit}
 use Rattle.class_layout.specs.declared.kind.Kind.TheVariants.{Ref}
 use Rattle.class_layout.specs.declared.kind.FieldAt.{FieldAt}
 use Rattle.class_layout.specs.declared.row.Row.{Row}
@@ -30,7 +31,7 @@ pub record IsRow (cs : List Class) (k : ℕ) (name : List ℕ) (row : Row) : Typ
   pub refs : length (references (layout_of cs k)) ≡ row.refs_before + row.refs
   -- the own references follow the inherited ones
   pub ref_places : (i : ℕ) → i < row.refs → slice_get (references (layout_of cs k)) (row.refs_before + i) ≡ Some (ref_at (nat_eq k 1) (row.first_ref + 4 * i))
-  pub few_refs : row.refs_before + row.refs ≤ 4096 * (k + 1)
+  pub few_refs : row.refs_before + row.refs ≤ field_limit * (k + 1)
   pub ref_room : row.first_ref + 4 * row.refs ≤ 8 + 61440 * (k + 1)
 
 -- the entries of the map stand for the classes, in the order of their numbers

@@ -1,6 +1,7 @@
 ghost use Rattle.std.specs.Prelude.{◌≡◌, ℕ, ◌+◌, ◌^◌, ◌<◌, ◌≤◌, List, ◌∷◌, [], ◌++◌, Option, Some, Ok, Err, length, map, slice_get, IfOk, IfErr, IfSome, OnErr, MatchResult, nat_eq};
 ghost use Rattle.std.specs.List.{list_any};
 ghost use Rattle.std.specs.Option.{option_map};
+ghost use Rattle.model_numbers.specs.Numbers.{field_limit};
 ghost use Rattle.class_layout.specs.ClassList.{Class, builtin_classes, layout_of, size_of, superclass_layout, own_fields_of, number_of, declares, repeats, occurs_in, define_class, IsClassList};
 ghost use Rattle.class_layout.specs.Defining.{IsDefinable};
 ghost use Rattle.class_layout.specs.Kinds.{next_multiple};
@@ -11,11 +12,9 @@ ghost use Rattle.class_layout.specs.Rows.{IsRow};
 use crate::row::Row;
 use crate::{FieldAt, FieldDecl, Kind, Name};
 use indexmap::IndexMap;
+use model_numbers::CLASS_LIMIT;
 use std::alloc::{AllocError, AllocFailed, Global};
 use std::marker::Model;
-
-/// How many classes a process may have, the two built-in ones among them.
-pub const CLASS_LIMIT: u32 = 65_536;
 
 // The class whose one field is weak.
 const WEAK_REFERENCE: u32 = 1;
@@ -105,7 +104,7 @@ impl Classes {
         parent: &Name,
         fields: &[FieldDecl],
     ) -> Result<u32, DefineError>
-        requires { length fields.now ≤ 4096 }
+        requires { length fields.now ≤ field_limit }
         ensures made { IfOk result (λ class. (class + 1 ≡ length self.new) × (define_class self.old name parent.now fields.now ≡ Ok self.new)) }
         ensures refused { IfErr (define_class self.old name parent.now fields.now) (λ e. result ≡ Err e) }
         ensures defined { IfOk (define_class self.old name parent.now fields.now) (λ cs.

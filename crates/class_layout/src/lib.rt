@@ -11,6 +11,6 @@ mod row;
 mod tests;
 
 pub use arrays::{array_size, array_unrounded, element_offset};
-pub use classes::{CLASS_LIMIT, Classes, DefineError, layout_rule};
+pub use classes::{Classes, DefineError, layout_rule};
 pub use kind::{FieldAt, FieldDecl, Kind, Value, fits};
-pub use name::{NAME_BYTES, Name};
+pub use name::Name;

@@ -1,5 +1,6 @@
 //! The places of a class's own fields.
 ghost use Rattle.std.specs.Prelude.{◌≡◌, ℕ, ◌+◌, ◌*◌, ◌^◌, ◌<◌, ◌≤◌, Bool, filter, length};
+ghost use Rattle.model_numbers.specs.Numbers.{field_limit};
 ghost use Rattle.class_layout.specs.Layout.{Laid, place_fields, lay_out};
 ghost use Rattle.class_layout.specs.Placing.{has_rank, ArePlaced};
 
@@ -11,7 +12,7 @@ use crate::FieldDecl;
 /// Gives each field its offset: references first, then values of 8, 4, 2 and 1 bytes. Returns where the last field ends.
 pub(crate) fn place_all(fields: &[FieldDecl], from: u32, offsets: &mut [u32]) -> u32
     requires long { length offsets.old ≡ length fields.now }
-    requires few { length fields.now ≤ 4096 }
+    requires few { length fields.now ≤ field_limit }
     requires room { from + 350000 < 2 ^ 32 }
     ensures end { (weak : Bool) (laid : Laid) → laid.end ≡ from → (lay_out weak laid fields.now).end ≡ result }
     ensures places { (weak : Bool) (laid : Laid) → laid.end ≡ from → ArePlaced weak (lay_out weak laid fields.now) fields.now offsets.new 5 0 }
@@ -26,7 +27,7 @@ pub(crate) fn place_all(fields: &[FieldDecl], from: u32, offsets: &mut [u32]) ->
 // Gives each field of one group its offset, in the order of declaration.
 fn place_group(fields: &[FieldDecl], rank: u8, from: u32, offsets: &mut [u32]) -> u32
     requires long { length offsets.old ≡ length fields.now }
-    requires few { length fields.now ≤ 4096 }
+    requires few { length fields.now ≤ field_limit }
     requires room { from + 70000 < 2 ^ 32 }
     ensures bound { result ≤ from + 61440 }
     ensures end { (weak : Bool) (laid : Laid) → laid.end ≡ from → (place_fields weak laid (filter (has_rank rank) fields.now)).end ≡ result }

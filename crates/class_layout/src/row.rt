@@ -1,5 +1,6 @@
 //! What is kept of a class, and how its fields are placed.
 ghost use Rattle.std.specs.Prelude.{◌≡◌, ℕ, ◌+◌, ◌*◌, ◌^◌, ◌<◌, ◌≤◌, length, slice_get, slice_index, IfOk, IfSome};
+ghost use Rattle.model_numbers.specs.Numbers.{field_limit};
 
 use crate::placing::place_all;
 use crate::{FieldAt, FieldDecl, Kind, Name};
@@ -53,7 +54,7 @@ impl Row {
         before: &Row,
         fields: &[FieldDecl],
     ) -> Result<Row, AllocError>
-        requires few { length fields.now ≤ 4096 }
+        requires few { length fields.now ≤ field_limit }
         requires room { before.now.end + 400000 < 2 ^ 32 }
         requires few_refs { before.now.refs_before + before.now.refs < 2 ^ 32 }
         ensures { IfOk result (IsBehind parent before.now fields.now) }

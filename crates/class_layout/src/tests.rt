@@ -1,6 +1,7 @@
 ghost use Rattle.std.specs.Prelude.{◌≤◌, length};
 
 use super::*;
+use model_numbers::CLASS_LIMIT;
 use std::alloc::Global;
 use std::test::Fail;
 

@@ -3,6 +3,7 @@ use Rattle.std.proofs.Common.{◌≡◌, ◌≢◌, ◌⊎◌, ℕ, zero, suc, B
 use Rattle.std.specs.Prelude.{option_map}
 use Rattle.std.proofs.lemmas.Bool.{cases_eq}
 use Rattle.std.proofs.lemmas.Option.{none-some, same_Some}
+use Rattle.model_numbers.specs.Numbers.{page_bytes}
 use Rattle.cow_pages.specs.declared.frame.Frame.{Frame}
 use Rattle.cow_pages.specs.declared.table.Entry.{Entry}
 use Rattle.cow_pages.specs.declared.table.Table.{Table}
@@ -108,7 +109,7 @@ pub record Mapped (s new : Store) (t p : ℕ) : Type 0 where
   pub rest : ChangesPage (shown s) (shown new) t p
 
 pub mapped : (s new : Store) (t p place n : ℕ) → IsKept s → place_of p ≡ Some place → entry_at s.tables.items t place ≡ None → IsPool new.pool → IsFreeFrame s.pool.frames.items n
-    → Shares s.pool.frames.items new.pool.frames.items (n ∷ []) [] → SetsBytes s.pool.frames.items new.pool.frames.items n (replicate 4096 0)
+    → Shares s.pool.frames.items new.pool.frames.items (n ∷ []) [] → SetsBytes s.pool.frames.items new.pool.frames.items n (replicate page_bytes 0)
     → SetsEntry s.tables.items new.tables.items t place (Some (record { frame = n; written = false })) → new.reads ≡ s.reads → Mapped s new t p
 mapped s new t p place n kept at none pool free shares bytes sets reads =
     let number = (place_found p place at).0 in

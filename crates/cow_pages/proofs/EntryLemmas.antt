@@ -11,7 +11,7 @@ use Rattle.cow_pages.specs.declared.table.Counts.{Counts}
 use Rattle.cow_pages.specs.declared.table.Table.{Table}
 use Rattle.cow_pages.specs.Address.{is_in}
 use Rattle.cow_pages.specs.Counts.{count_in, with_count}
-use Rattle.cow_pages.specs.Place.{page_number, window_of_place}
+use Rattle.cow_pages.specs.Place.{place_count, page_number, window_of_place}
 use Rattle.cow_pages.specs.Pool.{holders}
 use Rattle.cow_pages.specs.Tables.{frames_in, frame_list, mapped_from, written_from, one_mapped, one_written, cleared, IsCounted}
 use Rattle.cow_pages.proofs.PlaceLemmas.{is_in_yes, is_in_past}
@@ -145,7 +145,7 @@ is_in_below low high n below = and_left (leb low n) (ltb n high) (lt-leb_false l
     lt-leb_false a b lt = grind arith
 
 -- the page at a place lies in the place's window alone
-pub is_in-place : (k : ℕ) → k < 278528 → (w : Window) → is_in w (page_number k) ≡ same_window (window_of_place k) w
+pub is_in-place : (k : ℕ) → k < place_count → (w : Window) → is_in w (page_number k) ≡ same_window (window_of_place k) w
 is_in-place k below =
     both_by (ltb k 16384) Image _ (0x20000 + k) _ (λ v n. (w : Window) → is_in w n ≡ same_window v w) (λ e. image (0x20000 + k) (omega arith) (omega (arith, ltb-true k 16384 e))) (λ e1.
     both_by (ltb k 81920) Zygote _ (0x30000 + (k - 16384)) _ (λ v n. (w : Window) → is_in w n ≡ same_window v w) (λ e. zygote (0x30000 + (k - 16384)) (omega arith) (omega (arith, ltb-true k 81920 e))) (λ e2.
@@ -176,7 +176,7 @@ is_in-place k below =
     large n low high Large = is_in_yes 0x80000 0xa0000 n low high
 
 -- an entry counts in its place's window, and in no other
-pub mapped_one-place : (w : Window) (k : ℕ) (o : Option Entry) → k < 278528 → mapped_one w k o ≡ cond (same_window (window_of_place k) w) (one_mapped o) 0
+pub mapped_one-place : (w : Window) (k : ℕ) (o : Option Entry) → k < place_count → mapped_one w k o ≡ cond (same_window (window_of_place k) w) (one_mapped o) 0
 mapped_one-place w k None below = none (same_window (window_of_place k) w)
   where
     none : (b : Bool) → ◌≡◌ {A = ℕ} 0 (cond b 0 0)
@@ -184,7 +184,7 @@ mapped_one-place w k None below = none (same_window (window_of_place k) w)
     none false = refl
 mapped_one-place w k (Some e) below = ap (λ (b : Bool). cond {A = ℕ} b 1 0) (is_in-place k below w)
 
-pub written_one-place : (w : Window) (k : ℕ) (o : Option Entry) → k < 278528 → written_one w k o ≡ cond (same_window (window_of_place k) w) (one_written o) 0
+pub written_one-place : (w : Window) (k : ℕ) (o : Option Entry) → k < place_count → written_one w k o ≡ cond (same_window (window_of_place k) w) (one_written o) 0
 written_one-place w k None below = none (same_window (window_of_place k) w)
   where
     none : (b : Bool) → ◌≡◌ {A = ℕ} 0 (cond b 0 0)
@@ -276,7 +276,7 @@ same_window-same Regions = refl
 same_window-same Large = refl
 
 -- an entry that is there is counted
-pub mapped_there : (k : ℕ) (es : List (Option Entry)) → k < 278528 → length es ≡ 278528 → one_mapped (get_or es k None) ≤ mapped_from (window_of_place k) 0 es
+pub mapped_there : (k : ℕ) (es : List (Option Entry)) → k < place_count → length es ≡ place_count → one_mapped (get_or es k None) ≤ mapped_from (window_of_place k) 0 es
 mapped_there k es below len =
     let v = window_of_place k in
     omega (
@@ -286,7 +286,7 @@ mapped_there k es below len =
       cond-true {A = ℕ} (same_window v v) (one_mapped (get_or es k None)) 0 (same_window-same v),
     )
 
-pub written_there : (k : ℕ) (es : List (Option Entry)) → k < 278528 → length es ≡ 278528 → one_written (get_or es k None) ≤ written_from (window_of_place k) 0 es
+pub written_there : (k : ℕ) (es : List (Option Entry)) → k < place_count → length es ≡ place_count → one_written (get_or es k None) ≤ written_from (window_of_place k) 0 es
 written_there k es below len =
     let v = window_of_place k in
     omega (
@@ -307,7 +307,7 @@ count-less c mid v gone is =
     )
 
 -- the counts of a table are right after an entry was put in the place of another
-pub IsCounted-set : (old new : Table) (place : ℕ) (was o : Option Entry) (v : Window) (mid with : Counts) → IsCounted old → place < 278528 → v ≡ window_of_place place → was ≡ get_or old.entries.items place None
+pub IsCounted-set : (old new : Table) (place : ℕ) (was o : Option Entry) (v : Window) (mid with : Counts) → IsCounted old → place < place_count → v ≡ window_of_place place → was ≡ get_or old.entries.items place None
     → new.entries.items ≡ set old.entries.items place o
     → mid ≡ with_count old.mapped v (count_in old.mapped v - one_mapped was) → new.mapped ≡ with_count mid v (count_in mid v + one_mapped o)
     → with ≡ with_count old.written v (count_in old.written v - one_written was) → new.written ≡ with_count with v (count_in with v + one_written o)
@@ -383,7 +383,7 @@ get_or-none zero i = refl
 get_or-none (suc n) zero = refl
 get_or-none (suc n) (suc i) = get_or-none n i
 
-pub IsCounted-none : (new : Table) (n : ℕ) → n ≡ 278528 → new.entries.items ≡ replicate n None → new.mapped ≡ no_counts → new.written ≡ no_counts → IsCounted new
+pub IsCounted-none : (new : Table) (n : ℕ) → n ≡ place_count → new.entries.items ≡ replicate n None → new.mapped ≡ no_counts → new.written ≡ no_counts → IsCounted new
 IsCounted-none new n many entries mapped written = record {
   places = ap length entries ∙ length-replicate {A = Option Entry} n None ∙ many;
   mapped = λ w. ap (λ (c : Counts). count_in c w) mapped ∙ count-none w ∙ sym (ap (mapped_from w 0) entries ∙ mapped-none w 0 n);

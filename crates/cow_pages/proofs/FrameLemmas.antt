@@ -4,6 +4,7 @@ use Rattle.std.specs.Prelude.{All, take, drop}
 use Rattle.std.proofs.lemmas.List.{get_or-map, get_or_past, length-map, length-set, map-set, get_or-set_same, get_or-set_other, length-append, length-take, length-drop, get_or_append_left, get_or-append_right, get_or-take, get_or-drop, set-append_right, set-append_left, map-append, get_or_default}
 use Rattle.std.proofs.lemmas.List.Sums.{sum_by-cons}
 use Rattle.std.proofs.lemmas.Bool.{cases_eq, cases_lt, ne_eqb, cond-false}
+use Rattle.model_numbers.specs.Numbers.{page_bytes}
 use Rattle.cow_pages.specs.declared.frame.Frame.{Frame}
 use Rattle.cow_pages.specs.Change.{patched}
 use Rattle.cow_pages.specs.Pool.{bytes_of, sharers_of, next_of, rank_of, AreWhole, OnlyBytes, SetsBytes, SameBytes}
@@ -142,7 +143,7 @@ AreWhole-same old new len same are = record {
   bytes = λ f within. subst (All (λ b. b < 256)) (sym (same.bytes f)) (are.bytes f (omega arith));
 }
 
-pub AreWhole-sets : (old new : List Frame) (f : ℕ) (bs : List ℕ) → length new ≡ length old → SetsBytes old new f bs → AreWhole old → length bs ≡ 4096 → All (λ b. b < 256) bs → AreWhole new
+pub AreWhole-sets : (old new : List Frame) (f : ℕ) (bs : List ℕ) → length new ≡ length old → SetsBytes old new f bs → AreWhole old → length bs ≡ page_bytes → All (λ b. b < 256) bs → AreWhole new
 AreWhole-sets old new f bs len sets are whole small = record {
   whole = λ g within. elim (cases_eq g f) [
     | inl same ↦ ap (λ h. length (bytes_of new h)) same ∙ ap length sets.here ∙ whole

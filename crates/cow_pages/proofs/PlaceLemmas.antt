@@ -2,7 +2,7 @@
 use Rattle.std.proofs.Common.{◌≡◌, ◌⊎◌, ℕ, ◌+◌, ◌-◌, ◌<◌, ◌≤◌, Bool, true, false, cond, Some, Option, refl, ap, ◌∙◌, inl, inr, arith, ltb, leb, ◌&&◌}
 use Rattle.std.proofs.lemmas.Bool.{cond_both, ltb-true, ltb-false, leb-true, and_parts, cases_order, and_from, and_right, le-leb, lt-ltb, le-ltb, cond-true, cond-false}
 use Rattle.std.proofs.lemmas.Option.{none-some, same_Some}
-use Rattle.cow_pages.specs.Place.{page_number, place_of}
+use Rattle.cow_pages.specs.Place.{place_count, page_number, place_of}
 use Rattle.cow_pages.specs.Address.{is_in}
 use Rattle.cow_pages.specs.declared.address.Window.TheVariants.{Image, Zygote, Regions, Large}
 
@@ -43,7 +43,7 @@ pub is_in_past : (low high n : ℕ) → high ≤ n → (leb low n && ltb n high)
 is_in_past low high n past = and_right (leb low n) (ltb n high) (le-ltb n high past)
 
 -- the place of a place's number is the place
-pub place_of-number : (k : ℕ) → k < 278528 → place_of (page_number k) ≡ Some k
+pub place_of-number : (k : ℕ) → k < place_count → place_of (page_number k) ≡ Some k
 place_of-number k below =
     number_is k (λ n. place_of n ≡ Some k)
     (λ a. let n = 0x20000 + k in
@@ -79,7 +79,7 @@ pub in_bounds : (low high n : ℕ) → (leb low n && ltb n high) ≡ true → (l
 in_bounds low high n is = let both = and_parts (leb low n) (ltb n high) is in (leb-true low n both.0, ltb-true n high both.1)
 
 -- a place that is found has the page's number, and is below the number of places
-pub place_found : (p place : ℕ) → place_of p ≡ Some place → (page_number place ≡ p) × (place < 278528)
+pub place_found : (p place : ℕ) → place_of p ≡ Some place → (page_number place ≡ p) × (place < place_count)
 place_found p place is = elim (picked (is_in Image p) (p - 0x20000) place _ is) [
   | inl image ↦
       let w = in_bounds 0x20000 0x24000 p image.0 in let low = w.0 in let high = w.1 in let at = image.1 in

@@ -4,6 +4,7 @@ use Rattle.std.specs.Prelude.{All, replicate}
 use Rattle.std.proofs.lemmas.List.{length-replicate, get_or-replicate, length_push}
 use Rattle.std.proofs.lemmas.List.Sums.{sum_by-cons, sum_by_push, sum_by-append}
 use Rattle.std.proofs.lemmas.Bool.{cases_eq, cases_lt, eq-eqb, ne_eqb, cond-true, cond-false}
+use Rattle.model_numbers.specs.Numbers.{page_bytes}
 use Rattle.cow_pages.specs.declared.frame.Frame.{Frame}
 use Rattle.cow_pages.specs.Pool.{bytes_of, sharers_of, next_of, rank_of, holders, IsFreeFrame, IsLinked, AreWhole, AddsFrames, OnlyBytes, Shares, SameBytes, SetsBytes}
 use Rattle.cow_pages.proofs.FrameLemmas.{Replaces, free_count, one_free, free-same, field_before, field_joined, field_past, at_all}
@@ -211,19 +212,19 @@ pub small_zeros : (n : ℕ) → All (λ b. b < 256) (replicate n 0)
 small_zeros n k d within = rw (get_or-replicate n k 0 d (omega (arith, length-replicate {A = ℕ} n 0))) (omega arith)
 
 -- a frame of zeros that joined
-pub AreWhole-join : (old : List Frame) (y : Frame) → AreWhole old → y.bytes ≡ replicate 4096 0 → AreWhole (old ++ y ∷ [])
+pub AreWhole-join : (old : List Frame) (y : Frame) → AreWhole old → y.bytes ≡ replicate page_bytes 0 → AreWhole (old ++ y ∷ [])
 AreWhole-join old y are zeros = record {
   whole = λ f within. elim (cases_lt f (length old)) [
     | inl before ↦ ap length (field_before (λ it. it.bytes) old (y ∷ []) f [] before) ∙ are.whole f before
     | inr past ↦
         let at : f ≡ length old = omega (arith, length_push old y) in
-        ap (λ g. length (bytes_of (old ++ y ∷ []) g)) at ∙ ap length (field_joined (λ it. it.bytes) old y [] ∙ zeros) ∙ length-replicate {A = ℕ} 4096 0
+        ap (λ g. length (bytes_of (old ++ y ∷ []) g)) at ∙ ap length (field_joined (λ it. it.bytes) old y [] ∙ zeros) ∙ length-replicate {A = ℕ} page_bytes 0
   ];
   bytes = λ f within. elim (cases_lt f (length old)) [
     | inl before ↦ subst (All (λ b. b < 256)) (sym (field_before (λ it. it.bytes) old (y ∷ []) f [] before)) (are.bytes f before)
     | inr past ↦
         let at : f ≡ length old = omega (arith, length_push old y) in
-        subst (All (λ b. b < 256)) (sym (ap (bytes_of (old ++ y ∷ [])) at ∙ field_joined (λ it. it.bytes) old y [] ∙ zeros)) (small_zeros 4096)
+        subst (All (λ b. b < 256)) (sym (ap (bytes_of (old ++ y ∷ [])) at ∙ field_joined (λ it. it.bytes) old y [] ∙ zeros)) (small_zeros page_bytes)
   ];
 }
 

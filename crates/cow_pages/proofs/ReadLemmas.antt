@@ -13,7 +13,7 @@ use Rattle.cow_pages.specs.Address.{is_in, page_of, offset_of}
 use Rattle.cow_pages.specs.View.{byte_at, byte_in, bytes_at, view_of}
 use Rattle.cow_pages.specs.Counts.{count_in}
 use Rattle.cow_pages.specs.declared.address.Window.{Window}
-use Rattle.cow_pages.specs.Place.{page_number, place_of}
+use Rattle.cow_pages.specs.Place.{place_count, page_number, place_of}
 use Rattle.cow_pages.specs.Pool.{bytes_of}
 use Rattle.cow_pages.specs.Tables.{entry_at, entries_of, mapped_from, written_from}
 use Rattle.cow_pages.specs.Store.{shown, shown_table, IsKept, page_of_entry, pages_from}
@@ -32,7 +32,7 @@ live_within frames (table ∷ rest) zero is = omega arith
 live_within frames (table ∷ rest) (suc t) is = omega (arith, live_within frames rest t is)
 
 -- a table that is there has a place for each page
-pub places : (s : Store) → IsKept s → (t : ℕ) (table : Table) → t < length s.tables.items → get_or s.tables.items t None ≡ Some table → length table.entries.items ≡ 278528
+pub places : (s : Store) → IsKept s → (t : ℕ) (table : Table) → t < length s.tables.items → get_or s.tables.items t None ≡ Some table → length table.entries.items ≡ place_count
 places s kept t table within is = (kept.counted t table (slice_get-get_or s.tables.items t None within ∙ ap Some is)).places
 
 -- the page of a place that was found

@@ -11,7 +11,7 @@ use Rattle.cow_pages.specs.declared.table.Entry.{Entry}
 use Rattle.cow_pages.specs.declared.table.Table.{Table}
 use Rattle.cow_pages.specs.declared.store.Store.{Store}
 use Rattle.cow_pages.specs.Memory.{Page, page_at, frame_at, frames_of, RisesFrom, IsSound, is_mapped, is_written, flag_of, HasOneSharer, used_frames, distinct_count}
-use Rattle.cow_pages.specs.Place.{page_number}
+use Rattle.cow_pages.specs.Place.{place_count, page_number}
 use Rattle.cow_pages.specs.Pool.{bytes_of, sharers_of, holders}
 use Rattle.cow_pages.specs.Tables.{entries_of, entry_at, frames_in, all_frames}
 use Rattle.cow_pages.specs.Store.{pages_from, page_of_entry, shown_table, shown, IsKept}
@@ -142,7 +142,7 @@ in_one Regions n is = or_left (is_in Image n || is_in Zygote n || is_in Regions 
 in_one Large n is = or_right (is_in Image n || is_in Zygote n || is_in Regions n) (is_in Large n) is
 
 -- a place's page is one of a window's
-pub number_in_window : (k : ℕ) → k < 278528 → IsTrue (is_in_window (page_number k))
+pub number_in_window : (k : ℕ) → k < place_count → IsTrue (is_in_window (page_number k))
 number_in_window k below =
     number_is k (λ n. IsTrue (is_in_window n))
     (λ a. in_one Image (0x20000 + k) (in_range 0x20000 0x24000 (0x20000 + k) (omega arith) (omega arith)))
@@ -159,15 +159,15 @@ entry_within es n e is =
     ]
 
 pub place_within : (tables : List (Option Table)) (t place : ℕ) (e : Entry)
-    → ((u : ℕ) (table : Table) → slice_get tables u ≡ Some (Some table) → length table.entries.items ≡ 278528)
-    → entry_at tables t place ≡ Some e → place < 278528
+    → ((u : ℕ) (table : Table) → slice_get tables u ≡ Some (Some table) → length table.entries.items ≡ place_count)
+    → entry_at tables t place ≡ Some e → place < place_count
 place_within [] t place e all found = absurd (none-some _ found)
 place_within (None ∷ rest) zero place e all found = absurd (none-some _ found)
 place_within (Some table ∷ rest) zero place e all found = omega (arith, entry_within table.entries.items place e found, all 0 table refl)
 place_within (table ∷ rest) (suc t) place e all found = place_within rest t place e (λ u. all (suc u)) found
 
 -- an entry has one of the places
-pub place_below : (s : Store) → IsKept s → (t place : ℕ) (e : Entry) → entry_at s.tables.items t place ≡ Some e → place < 278528
+pub place_below : (s : Store) → IsKept s → (t place : ℕ) (e : Entry) → entry_at s.tables.items t place ≡ Some e → place < place_count
 place_below s kept t place e found = place_within s.tables.items t place e (λ u table at. (kept.counted u table at).places) found
 
 pub in_window : (s : Store) → IsKept s → (t p : ℕ) → IsTrue (is_mapped (shown s) t p) → IsTrue (is_in_window p)

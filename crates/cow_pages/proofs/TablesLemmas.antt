@@ -3,6 +3,7 @@ use Rattle.std.proofs.Common.{◌≡◌, ℕ, zero, suc, ◌+◌, ◌<◌, Bool,
 use Rattle.std.proofs.lemmas.List.{get_or-set_same, get_or-set_other}
 use Rattle.std.proofs.lemmas.Bool.{cases_eq}
 use Rattle.std.proofs.lemmas.Option.{none-some, same_Some, get_or_from_slice_get}
+use Rattle.cow_pages.specs.Place.{place_count}
 use Rattle.cow_pages.specs.declared.table.Entry.{Entry}
 use Rattle.cow_pages.specs.declared.table.Table.{Table}
 use Rattle.cow_pages.specs.Pool.{holders}
@@ -52,7 +53,7 @@ SetsTable-set tables t o within are may = record {
 
 -- one entry of a table that is there was changed
 pub SetsEntry-set : (tables : List (Option Table)) (t place : ℕ) (old new : Table) (o : Option Entry) → t < length tables → AreCounted tables → get_or tables t None ≡ Some old
-    → place < 278528 → new.entries.items ≡ set old.entries.items place o → IsCounted new → SetsEntry tables (set tables t (Some new)) t place o
+    → place < place_count → new.entries.items ≡ set old.entries.items place o → IsCounted new → SetsEntry tables (set tables t (Some new)) t place o
 SetsEntry-set tables t place old new o within are was below entries counted =
     let sets = SetsTable-set tables t (Some new) within are (λ table (is : Some new ≡ Some table). subst IsCounted (same_Some new table is) counted) in
     let es = old.entries.items in

@@ -1,6 +1,7 @@
 -- What a change of pages is to the views of tables.
 use Rattle.std.proofs.Common.{◌≡◌, ◌≢◌, ◌⊎◌, ℕ, zero, suc, ◌+◌, ◌-◌, ◌<◌, ◌≤◌, List, [], ◌∷◌, map, length, get_or, Some, None, Option, is_some, false, true≢false, refl, sym, ap, subst, ◌∙◌, inl, inr, arith, replicate}
 use Rattle.std.proofs.lemmas.Bool.{cases_eq}
+use Rattle.model_numbers.specs.Numbers.{page_bytes}
 use Rattle.cow_pages.specs.Address.{page_of, offset_of}
 use Rattle.cow_pages.specs.Memory.{Memory, Page, Table, page_in, pages_of, page_at, is_live, is_mapped, IsSound}
 use Rattle.cow_pages.specs.Change.{ChangesPage, ChangesTable, MapsZeros, WritesPage, settled, patched}
@@ -38,7 +39,7 @@ beside old new t p at rest apart = let same = rest.others t (page_of at) (inr ap
 pub MapsPage-zeros : (old new : Memory) (t p : ℕ) → MapsZeros old new t p → ChangesPage old new t p → MapsPage (view_of old t) (view_of new t) p
 MapsPage-zeros old new t p zeros rest = record {
   mapped = λ at is. ap is_some (ap (page_at new t) is ∙ zeros.now);
-  zero = λ at is. byte-is new t at _ (ap (page_at new t) is ∙ zeros.now) ∙ zeros-at 4096 (offset_of at);
+  zero = λ at is. byte-is new t at _ (ap (page_at new t) is ∙ zeros.now) ∙ zeros-at page_bytes (offset_of at);
   others = λ at apart. beside old new t p at rest apart;
 }
 
@@ -77,11 +78,11 @@ bytes-are v at k (b ∷ rest) same =
     ap (λ n. n ∷ map (λ i. v.byte (at + i)) (numbers_from (k + 1) (length rest))) (ap (λ i. v.byte (at + i)) (let e : k ≡ k + 0 = omega arith in e) ∙ same 0 (omega arith))
     ∙ ap (λ (bs : List ℕ). b ∷ bs) (bytes-are v at (k + 1) rest (λ i below. ap (λ i. v.byte (at + i)) (let e : k + 1 + i ≡ k + suc i = omega arith in e) ∙ same (suc i) (omega arith)))
 
-pub along_page : (at i : ℕ) → offset_of at + i < 4096 → (page_of (at + i) ≡ page_of at) × (offset_of (at + i) ≡ offset_of at + i)
+pub along_page : (at i : ℕ) → offset_of at + i < page_bytes → (page_of (at + i) ≡ page_of at) × (offset_of (at + i) ≡ offset_of at + i)
 along_page at i below = (omega arith, omega arith)
 
 -- a write of a page is a write of its addresses
-pub WritesBytes-page : (old new : Memory) (t at : ℕ) (bytes : List ℕ) → IsSound old → offset_of at + length bytes ≤ 4096 → WritesPage old new t at bytes → WritesBytes (view_of old t) (view_of new t) at bytes
+pub WritesBytes-page : (old new : Memory) (t at : ℕ) (bytes : List ℕ) → IsSound old → offset_of at + length bytes ≤ page_bytes → WritesPage old new t at bytes → WritesBytes (view_of old t) (view_of new t) at bytes
 WritesBytes-page old new t at bytes sound room w =
     let o = offset_of at in
     let whole = sound.whole t (page_of at) w.was w.was_there in

@@ -1,33 +1,30 @@
 -- Addresses, pages and windows.
-use Rattle.std.specs.Prelude.{ℕ, ◌+◌, ◌/◌, ◌%◌, Bool, ◌&&◌, ◌||◌, nat_le, nat_lt}
+use Rattle.std.specs.Prelude.{ℕ, ◌+◌, ◌*◌, ◌/◌, ◌%◌, Bool, ◌&&◌, ◌||◌, nat_le, nat_lt}
+use Rattle.model_numbers.specs.Numbers.{image_base, image_length, zygote_base, zygote_length, region_base, region_bytes, region_count, large_base, large_slot_bytes, large_slot_count, page_bytes}
 use Rattle.cow_pages.specs.declared.address.Window.{Window}
 use Rattle.cow_pages.specs.declared.address.Window.TheVariants.{Image, Zygote, Regions, Large}
 
--- how many bytes a page has
-abbrev pub page_size : ℕ
-page_size = 4096
-
 -- the page in which an address lies
 abbrev pub page_of : ℕ → ℕ
-page_of at = at / 4096
+page_of at = at / page_bytes
 
 -- how far into its page an address lies
 abbrev pub offset_of : ℕ → ℕ
-offset_of at = at % 4096
+offset_of at = at % page_bytes
 
 -- the first page of a window
 abbrev pub first_page : Window → ℕ
-first_page Image = 0x20000
-first_page Zygote = 0x30000
-first_page Regions = 0x40000
-first_page Large = 0x80000
+first_page Image = image_base / page_bytes
+first_page Zygote = zygote_base / page_bytes
+first_page Regions = region_base / page_bytes
+first_page Large = large_base / page_bytes
 
 -- how many pages a window has
 abbrev pub page_count : Window → ℕ
-page_count Image = 16384
-page_count Zygote = 65536
-page_count Regions = 65536
-page_count Large = 131072
+page_count Image = image_length / page_bytes
+page_count Zygote = zygote_length / page_bytes
+page_count Regions = region_count * region_bytes / page_bytes
+page_count Large = large_slot_count * large_slot_bytes / page_bytes
 
 -- the page is one of the window's
 abbrev pub is_in : Window → ℕ → Bool

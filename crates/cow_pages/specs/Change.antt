@@ -1,6 +1,7 @@
 -- What a call changes, and what stays as it was.
 use Rattle.std.specs.Prelude.{◌≡◌, ◌≢◌, ◌⊎◌, ℕ, ◌+◌, ◌≤◌, min, ◌^◌, ◌-◌, true, false, if◌then◌else◌, List, length, Option, Some, option_map, ◌++◌, take, drop, replicate}
-use Rattle.cow_pages.specs.Address.{page_of, offset_of, page_size, is_immune}
+use Rattle.model_numbers.specs.Numbers.{page_bytes}
+use Rattle.cow_pages.specs.Address.{page_of, offset_of, is_immune}
 use Rattle.cow_pages.specs.Memory.{Memory, Page, page_at, frame_at, is_live, HasOneSharer, IsShared, IsFree, used_frames}
 
 -- this page may have changed: every other page of every table is as it was, with its bytes, flag and frame
@@ -43,7 +44,7 @@ reads_after reads at = if is_immune at then min (reads + 1) (2 ^ 64 - 1) else re
 
 -- a page of zeros that is not written
 abbrev pub zero_page : ℕ → Page
-zero_page frame = record { bytes = replicate page_size 0; written = false; frame = frame }
+zero_page frame = record { bytes = replicate page_bytes 0; written = false; frame = frame }
 
 -- the bytes with these put in from an offset on
 abbrev pub patched : List ℕ → ℕ → List ℕ → List ℕ

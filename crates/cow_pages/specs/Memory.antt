@@ -1,8 +1,9 @@
 -- What a contract sees of a `Frames`: its tables, each as the list of its pages.
 use Rattle.std.specs.Prelude.{◌≡◌, ◌≢◌, ℕ, ◌+◌, ◌<◌, ◌==◌, Bool, false, if◌then◌else◌, List, [], ◌∷◌, ◌++◌, length, map, All, count_by, Option, Some, None, is_some, option_map, slice_index_or, IsTrue, ◌&&◌, nat_le}
 use Rattle.std.specs.List.{list_any}
+use Rattle.model_numbers.specs.Numbers.{page_bytes}
 use Rattle.cow_pages.specs.declared.address.Window.{Window}
-use Rattle.cow_pages.specs.Address.{page_size, is_in, is_in_window}
+use Rattle.cow_pages.specs.Address.{is_in, is_in_window}
 
 -- the bytes of a page, whether it was written since it was last settled, and the frame that it stands in
 pub record Page : Type 0 where
@@ -108,7 +109,7 @@ pub record IsSound (m : Memory) : Type 0 where
   pub rising : (t : ℕ) → RisesFrom 0 (table_of m t)
   pub in_range : (t p f : ℕ) → frame_at m t p ≡ Some f → f < m.frames
   pub in_window : (t p : ℕ) → IsTrue (is_mapped m t p) → IsTrue (is_in_window p)
-  pub whole : (t p : ℕ) (page : Page) → page_at m t p ≡ Some page → length page.bytes ≡ page_size
+  pub whole : (t p : ℕ) (page : Page) → page_at m t p ≡ Some page → length page.bytes ≡ page_bytes
   pub bytes : (t p : ℕ) (page : Page) → page_at m t p ≡ Some page → All (λ b. b < 256) page.bytes
   pub same_page : (t p u q f : ℕ) → frame_at m t p ≡ Some f → frame_at m u q ≡ Some f → p ≡ q
   pub same_bytes : (t u p : ℕ) (one other : Page) → page_at m t p ≡ Some one → page_at m u p ≡ Some other

@@ -1,5 +1,6 @@
 -- How a `Pool` keeps its frames. No public clause cites this module.
 use Rattle.std.specs.Prelude.{◌≡◌, ◌≢◌, ℕ, ◌+◌, ◌<◌, ◌≤◌, ◌==◌, List, [], length, map, All, count_by, slice_index_or, ◌^◌}
+use Rattle.model_numbers.specs.Numbers.{page_bytes}
 use Rattle.cow_pages.specs.declared.frame.Frame.{Frame}
 use Rattle.cow_pages.specs.declared.pool.Pool.{Pool}
 
@@ -36,7 +37,7 @@ pub record IsLinked (frames : List Frame) (first spare : ℕ) : Type 0 where
 
 -- each frame has 4,096 bytes
 pub record AreWhole (frames : List Frame) : Type 0 where
-  pub whole : (f : ℕ) → f < length frames → length (bytes_of frames f) ≡ 4096
+  pub whole : (f : ℕ) → f < length frames → length (bytes_of frames f) ≡ page_bytes
   pub bytes : (f : ℕ) → f < length frames → All (λ b. b < 256) (bytes_of frames f)
 
 -- what holds of each `Pool`

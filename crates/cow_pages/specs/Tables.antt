@@ -5,7 +5,7 @@ use Rattle.cow_pages.specs.declared.address.Window.{Window}
 use Rattle.cow_pages.specs.declared.table.Entry.{Entry}
 use Rattle.cow_pages.specs.declared.table.Table.{Table}
 use Rattle.cow_pages.specs.Counts.{count_in}
-use Rattle.cow_pages.specs.Place.{page_number}
+use Rattle.cow_pages.specs.Place.{place_count, page_number}
 use Rattle.cow_pages.specs.Pool.{holders}
 
 abbrev pub entries_of : Option Table → List (Option Entry)
@@ -46,7 +46,7 @@ written_from w place (Some e ∷ rest) = (if is_in w (page_number place) && e.wr
 
 -- a table has a place for each page, and its counts are right
 pub record IsCounted (table : Table) : Type 0 where
-  pub places : length table.entries.items ≡ 278528
+  pub places : length table.entries.items ≡ place_count
   pub mapped : (w : Window) → count_in table.mapped w ≡ mapped_from w 0 table.entries.items
   pub written : (w : Window) → count_in table.written w ≡ written_from w 0 table.entries.items
 

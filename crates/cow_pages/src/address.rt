@@ -2,8 +2,28 @@
 ghost use Rattle.std.specs.Prelude.{◌≡◌};
 ghost use Rattle.cow_pages.specs.Address.{page_of, offset_of, is_immune};
 
-/// How many bytes a page and a frame have.
-pub(crate) const PAGE_SIZE: usize = 4096;
+use model_numbers::{
+    IMAGE_BASE, IMAGE_LENGTH, LARGE_BASE, LARGE_SLOT_BYTES, LARGE_SLOT_COUNT, PAGE_BYTES,
+    REGION_BASE, REGION_BYTES, REGION_COUNT, ZYGOTE_BASE, ZYGOTE_LENGTH,
+};
+
+// The pages of each window, from its first to the one behind its last.
+pub(crate) const IMAGE_PAGE: u32 = IMAGE_BASE / PAGE_BYTES;
+
+pub(crate) const IMAGE_PAGE_END: u32 = IMAGE_PAGE + IMAGE_LENGTH / PAGE_BYTES;
+
+pub(crate) const ZYGOTE_PAGE: u32 = ZYGOTE_BASE / PAGE_BYTES;
+
+pub(crate) const ZYGOTE_PAGE_END: u32 = ZYGOTE_PAGE + ZYGOTE_LENGTH / PAGE_BYTES;
+
+pub(crate) const REGIONS_PAGE: u32 = REGION_BASE / PAGE_BYTES;
+
+pub(crate) const REGIONS_PAGE_END: u32 = REGIONS_PAGE + REGION_COUNT * REGION_BYTES / PAGE_BYTES;
+
+pub(crate) const LARGE_PAGE: u32 = LARGE_BASE / PAGE_BYTES;
+
+pub(crate) const LARGE_PAGE_END: u32 = LARGE_PAGE
+    + LARGE_SLOT_COUNT * LARGE_SLOT_BYTES / PAGE_BYTES;
 
 /// The address of a byte.
 #[derive(Clone, Copy, PartialEq, Eq, Debug)]
@@ -39,14 +59,14 @@ impl Addr {
     pub fn page(self) -> PageNo
         ensures { result.0 ≡ page_of self.0 }
     {
-        PageNo(self.0 / 4096)
+        PageNo(self.0 / PAGE_BYTES)
     }
 
     /// How many bytes of its page stand before the address, below 4,096.
     pub fn offset(self) -> usize
         ensures { result ≡ offset_of self.0 }
     {
-        (self.0 % 4096) as usize
+        (self.0 % PAGE_BYTES) as usize
     }
 
     /// Whether reads at the address are counted: it lies in the image or zygote window.
@@ -54,7 +74,8 @@ impl Addr {
     pub(crate) fn is_immune(self) -> bool
         ensures { result ≡ is_immune self.0 }
     {
-        let page = self.0 / 4096;
-        (0x20000..0x24000).contains(&page) || (0x30000..0x40000).contains(&page)
+        let page = self.0 / PAGE_BYTES;
+        (IMAGE_PAGE..IMAGE_PAGE_END).contains(&page)
+            || (ZYGOTE_PAGE..ZYGOTE_PAGE_END).contains(&page)
     }
 }

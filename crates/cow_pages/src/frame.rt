@@ -1,15 +1,16 @@
 //! A frame: the bytes of a page, and how many entries have it.
 ghost use Rattle.std.specs.Prelude.{◌≡◌, ◌≢◌, ◌+◌, ◌≤◌, ◌<◌, [], ◌∷◌, ◌^◌, length, slice_index, replicate};
 ghost use Rattle.std.specs.Int.{w16, w32, w64, from_le_bytes};
+ghost use Rattle.model_numbers.specs.Numbers.{page_bytes};
 ghost use Rattle.cow_pages.specs.Change.{patched};
 ghost use Rattle.cow_pages.specs.Pool.{bytes_of, OnlyBytes, SetsBytes};
 
-use crate::address::PAGE_SIZE;
+use model_numbers::PAGE_BYTES;
 
 /// A frame that no entry has is free, and stands in the list of free frames.
 #[derive(Drop)]
 pub struct Frame {
-    pub bytes: [u8; PAGE_SIZE],
+    pub bytes: [u8; PAGE_BYTES as usize],
     /// How many entries have the frame.
     pub sharers: usize,
     /// Of a free frame: the next free frame, if its rank is above 1.
@@ -21,13 +22,13 @@ pub struct Frame {
 impl Frame {
     /// A frame at the head of the list of free frames.
     pub fn free(next: u32, rank: u32) -> Frame
-        ensures bytes { result.bytes ≡ replicate 4096 0 }
+        ensures bytes { result.bytes ≡ replicate page_bytes 0 }
         ensures sharers { result.sharers ≡ 0 }
         ensures next { result.next ≡ next }
         ensures rank { result.rank ≡ rank }
     {
         Frame {
-            bytes: [0; PAGE_SIZE],
+            bytes: [0; PAGE_BYTES as usize],
             sharers: 0,
             next,
             rank,

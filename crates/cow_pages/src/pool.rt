@@ -1,5 +1,6 @@
 //! The frames, and the list of those that are free.
 ghost use Rattle.std.specs.Prelude.{◌≡◌, ◌≢◌, ◌+◌, ◌<◌, ◌≤◌, ◌^◌, ℕ, [], ◌∷◌, length, replicate, IsOk, OnOk, OnErr, Some, None, slice_index_or, vec_len, vec_capacity};
+ghost use Rattle.model_numbers.specs.Numbers.{page_bytes};
 ghost use Rattle.cow_pages.specs.Change.{patched};
 ghost use Rattle.cow_pages.specs.Pool.{bytes_of, sharers_of, holders, IsFreeFrame, IsPool, SamePool, AddsFrames, Shares, SameBytes, SetsBytes};
 ghost use Rattle.cow_pages.specs.Tables.{frames_in};
@@ -90,7 +91,7 @@ impl Pool {
         ensures pool { IsPool self.new }
         ensures free { IsFreeFrame self.old.frames.items result }
         ensures shares { Shares self.old.frames.items self.new.frames.items (result ∷ []) [] }
-        ensures bytes { SetsBytes self.old.frames.items self.new.frames.items result (replicate 4096 0) }
+        ensures bytes { SetsBytes self.old.frames.items self.new.frames.items result (replicate page_bytes 0) }
         ensures spare { self.new.spare + 1 ≡ self.old.spare }
     {
         let number = self.take();
@@ -198,7 +199,7 @@ impl Pool {
         requires within { number < length self.old.frames.items }
         ensures pool { IsPool self.new }
         ensures shares { Shares self.old.frames.items self.new.frames.items [] [] }
-        ensures bytes { SetsBytes self.old.frames.items self.new.frames.items number (replicate 4096 0) }
+        ensures bytes { SetsBytes self.old.frames.items self.new.frames.items number (replicate page_bytes 0) }
         ensures spare { self.new.spare ≡ self.old.spare }
     {
         clear(&mut self.frames[number].bytes);
@@ -223,7 +224,7 @@ impl Pool {
     pub fn put(&mut self, number: usize, offset: usize, new: &[u8])
         requires pool { IsPool self.old }
         requires within { number < length self.old.frames.items }
-        requires room { offset + length new.now ≤ 4096 }
+        requires room { offset + length new.now ≤ page_bytes }
         ensures pool { IsPool self.new }
         ensures shares { Shares self.old.frames.items self.new.frames.items [] [] }
         ensures bytes { SetsBytes self.old.frames.items self.new.frames.items number (patched (bytes_of self.old.frames.items number) offset new.now) }

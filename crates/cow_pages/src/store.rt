@@ -1,9 +1,10 @@
 //! All frames and all tables.
 ghost use Rattle.std.specs.Prelude.{◌≡◌, ◌≢◌, ◌⊎◌, ◌+◌, ◌-◌, ◌<◌, ◌≤◌, ℕ, [], length, IsOk, IfOk, OnOk, OnErr, Some, None, true, false, IsTrue, slice_index_or};
+ghost use Rattle.model_numbers.specs.Numbers.{page_bytes};
 ghost use Rattle.cow_pages.specs.Address.{page_of, offset_of, is_in_window};
 ghost use Rattle.cow_pages.specs.Memory.{is_live, is_mapped, page_at, frame_at, IsSettled, HasOneSharer, IsShared};
 ghost use Rattle.cow_pages.specs.Change.{ChangesPage, ChangesTable, FreesFrames, KeepsRoom, MapsZeros, TakesFrame, TakesOnCopy, TakesOne, WritesPage, patched, reads_after, settled, written_page};
-ghost use Rattle.cow_pages.specs.Place.{page_number};
+ghost use Rattle.cow_pages.specs.Place.{place_count, page_number};
 ghost use Rattle.cow_pages.specs.Pool.{bytes_of, sharers_of};
 ghost use Rattle.cow_pages.specs.Tables.{entries_of, entry_at, AddsTable, AreCounted, IsCounted, SameTables, SetsEntry};
 ghost use Rattle.cow_pages.specs.Store.{shown, IsKept, AddsRoom, OwnsPage};
@@ -56,7 +57,7 @@ impl Store {
     pub fn entry(&self, t: TableNo, place: usize) -> Option<Entry>
         requires kept { IsKept self.now }
         requires live { IsTrue (is_live (shown self.now) t.0) }
-        requires place { place < 278528 }
+        requires place { place < place_count }
         ensures { result ≡ entry_at self.now.tables.items t.0 place }
     {
         match &self.tables[t.0] {
@@ -68,7 +69,7 @@ impl Store {
     fn set_entry(&mut self, t: TableNo, place: usize, entry: Option<Entry>)
         requires counted { AreCounted self.old.tables.items }
         requires live { IsTrue (is_live (shown self.old) t.0) }
-        requires place { place < 278528 }
+        requires place { place < place_count }
         ensures entry { SetsEntry self.old.tables.items self.new.tables.items t.0 place entry }
         ensures pool { self.new.pool ≡ self.old.pool }
         ensures reads { self.new.reads ≡ self.old.reads }
@@ -136,7 +137,7 @@ impl Store {
     pub fn write(&mut self, t: TableNo, at: Addr, bytes: &[u8]) -> Result<(), AllocError>
         requires kept { IsKept self.old }
         requires mapped { IsTrue (is_mapped (shown self.old) t.0 (page_of at.0)) }
-        requires room { offset_of at.0 + length bytes.now ≤ 4096 }
+        requires room { offset_of at.0 + length bytes.now ≤ page_bytes }
         ensures kept { IsKept self.new }
         ensures page { OnOk result (WritesPage (shown self.old) (shown self.new) t.0 at.0 bytes.now) }
         ensures takes { OnOk result (TakesOnCopy (shown self.old) (shown self.new) t.0 (page_of at.0)) }
@@ -162,7 +163,7 @@ impl Store {
     fn write_first(&mut self, t: TableNo, at: Addr, bytes: &[u8]) -> Result<(), AllocError>
         requires kept { IsKept self.old }
         requires mapped { IsTrue (is_mapped (shown self.old) t.0 (page_of at.0)) }
-        requires room { offset_of at.0 + length bytes.now ≤ 4096 }
+        requires room { offset_of at.0 + length bytes.now ≤ page_bytes }
         ensures kept { IsKept self.new }
         ensures page { OnOk result (WritesPage (shown self.old) (shown self.new) t.0 at.0 bytes.now) }
         ensures takes { OnOk result (TakesOnCopy (shown self.old) (shown self.new) t.0 (page_of at.0)) }
@@ -185,7 +186,7 @@ impl Store {
     #[inline]
     fn own(&mut self, t: TableNo, place: usize, entry: Entry) -> Result<Entry, AllocError>
         requires kept { IsKept self.old }
-        requires place { place < 278528 }
+        requires place { place < place_count }
         requires there { entry_at self.old.tables.items t.0 place ≡ Some entry }
         ensures kept { IsKept self.new }
         ensures owns { IfOk result (λ it. OwnsPage self.old self.new t.0 place entry it) }
@@ -205,7 +206,7 @@ impl Store {
     #[inline(never)]
     fn copy(&mut self, t: TableNo, place: usize, entry: Entry) -> Result<Entry, AllocError>
         requires kept { IsKept self.old }
-        requires place { place < 278528 }
+        requires place { place < place_count }
         requires there { entry_at self.old.tables.items t.0 place ≡ Some entry }
         requires shared { sharers_of self.old.pool.frames.items entry.frame ≢ 1 }
         ensures kept { IsKept self.new }
@@ -226,10 +227,10 @@ impl Store {
     #[inline]
     fn put(&mut self, t: TableNo, place: usize, entry: Entry, offset: usize, bytes: &[u8])
         requires kept { IsKept self.old }
-        requires place { place < 278528 }
+        requires place { place < place_count }
         requires there { entry_at self.old.tables.items t.0 place ≡ Some entry }
         requires alone { sharers_of self.old.pool.frames.items entry.frame ≡ 1 }
-        requires room { offset + length bytes.now ≤ 4096 }
+        requires room { offset + length bytes.now ≤ page_bytes }
         ensures kept { IsKept self.new }
         ensures now { page_at (shown self.new) t.0 (page_number place) ≡ Some (written_page (patched (bytes_of self.old.pool.frames.items entry.frame) offset bytes.now) entry.frame) }
         ensures rest { ChangesPage (shown self.old) (shown self.new) t.0 (page_number place) }
@@ -244,7 +245,7 @@ impl Store {
     fn mark(&mut self, t: TableNo, place: usize, entry: Entry)
         requires counted { AreCounted self.old.tables.items }
         requires live { IsTrue (is_live (shown self.old) t.0) }
-        requires place { place < 278528 }
+        requires place { place < place_count }
         requires there { entry_at self.old.tables.items t.0 place ≡ Some entry }
         ensures entry { SetsEntry self.old.tables.items self.new.tables.items t.0 place (Some (record entry { written = true })) }
         ensures pool { self.new.pool ≡ self.old.pool }

@@ -1,20 +1,27 @@
 //! A page table: an entry for each page of the four windows.
 ghost use Rattle.std.specs.Prelude.{◌≡◌, ◌≢◌, ℕ, ◌+◌, ◌-◌, ◌<◌, ◌≤◌, length, map, replicate, IfOk, Some, None, true, false, slice_set, slice_index_or, ◌^◌};
 ghost use Rattle.cow_pages.specs.Counts.{count_in, with_count};
-ghost use Rattle.cow_pages.specs.Place.{place_of, window_of_place};
+ghost use Rattle.cow_pages.specs.Place.{place_count, place_of, window_of_place};
 ghost use Rattle.cow_pages.specs.Tables.{IsCounted, cleared, one_mapped, one_written};
 
-use crate::address::{PageNo, Window};
+use crate::address::{
+    IMAGE_PAGE, IMAGE_PAGE_END, LARGE_PAGE, LARGE_PAGE_END, PageNo, REGIONS_PAGE, REGIONS_PAGE_END,
+    Window, ZYGOTE_PAGE, ZYGOTE_PAGE_END,
+};
+use model_numbers::{
+    IMAGE_LENGTH, LARGE_SLOT_BYTES, LARGE_SLOT_COUNT, PAGE_BYTES, REGION_BYTES, REGION_COUNT,
+    ZYGOTE_LENGTH,
+};
 use std::alloc::{AllocError, Global};
 
 /// How many pages all windows have together.
-pub const PLACES: usize = 278_528;
+pub const PLACES: usize = LARGE_PLACE + (LARGE_SLOT_COUNT * LARGE_SLOT_BYTES / PAGE_BYTES) as usize;
 
-const ZYGOTE_PLACE: usize = 16_384;
+const ZYGOTE_PLACE: usize = (IMAGE_LENGTH / PAGE_BYTES) as usize;
 
-const REGIONS_PLACE: usize = 81_920;
+const REGIONS_PLACE: usize = ZYGOTE_PLACE + (ZYGOTE_LENGTH / PAGE_BYTES) as usize;
 
-const LARGE_PLACE: usize = 147_456;
+const LARGE_PLACE: usize = REGIONS_PLACE + (REGION_COUNT * REGION_BYTES / PAGE_BYTES) as usize;
 
 /// What a table has at a mapped page.
 #[derive(Clone, Copy)]
@@ -67,18 +74,18 @@ pub struct Table {
 pub fn place_of(page: PageNo) -> Option<usize>
     ensures { result ≡ place_of page.0 }
 {
-    let page = page.0 as usize;
-    if 0x20000 <= page && page < 0x24000 {
-        return Some(page - 0x20000);
+    let page = page.0;
+    if IMAGE_PAGE <= page && page < IMAGE_PAGE_END {
+        return Some((page - IMAGE_PAGE) as usize);
     }
-    if 0x30000 <= page && page < 0x40000 {
-        return Some(page - 0x30000 + ZYGOTE_PLACE);
+    if ZYGOTE_PAGE <= page && page < ZYGOTE_PAGE_END {
+        return Some((page - ZYGOTE_PAGE) as usize + ZYGOTE_PLACE);
     }
-    if 0x40000 <= page && page < 0x50000 {
-        return Some(page - 0x40000 + REGIONS_PLACE);
+    if REGIONS_PAGE <= page && page < REGIONS_PAGE_END {
+        return Some((page - REGIONS_PAGE) as usize + REGIONS_PLACE);
     }
-    if 0x80000 <= page && page < 0xa0000 {
-        return Some(page - 0x80000 + LARGE_PLACE);
+    if LARGE_PAGE <= page && page < LARGE_PAGE_END {
+        return Some((page - LARGE_PAGE) as usize + LARGE_PLACE);
     }
     None
 }
@@ -183,7 +190,7 @@ impl Table {
     /// Puts an entry at a place, or none.
     pub fn set(&mut self, place: usize, entry: Option<Entry>)
         requires counted { IsCounted self.old }
-        requires within { place < 278528 }
+        requires within { place < place_count }
         ensures entries { self.new.entries.items ≡ slice_set self.old.entries.items place entry }
         ensures counted { IsCounted self.new }
     {

@@ -1,6 +1,7 @@
 -- Places lie in one region each, they rise with the end before them, and fewer sizes end no later.
 use Rattle.std.proofs.Common.{◌≡◌, ℕ, ◌+◌, ◌-◌, ◌/◌, ◌<◌, ◌≤◌, Bool, true, false, cond, nat_eq, List, [], ◌∷◌, map, filter, refl, arith}
 use Rattle.std.proofs.lemmas.Bool.{eqb-true, eqb-false}
+use Rattle.model_numbers.specs.Numbers.{region_bytes}
 use Rattle.class_layout.specs.ClassList.{Class}
 use Rattle.heap_graph.specs.Graph.{Object, Graph, is_young, size_of_object}
 use Rattle.heap_graph.specs.Sizes.{parts_for}
@@ -10,11 +11,11 @@ use Rattle.heap_graph.specs.Reach.{reached}
 use Rattle.heap_graph.specs.Paths.{FitRegions, IsInRegion, ArePacked, numbers}
 
 -- what fits a region lies in one at its place, not before the end that it follows
-place_lies : (b : Bool) (p s : ℕ) → nat_eq (p / 262144) ((p + s - 1) / 262144) ≡ b → 0 < s → s ≤ 262144 → (p ≤ place_if b p) × IsInRegion (place_if b p) s
+place_lies : (b : Bool) (p s : ℕ) → nat_eq (p / region_bytes) ((p + s - 1) / region_bytes) ≡ b → 0 < s → s ≤ region_bytes → (p ≤ place_if b p) × IsInRegion (place_if b p) s
 place_lies true p s e some fits =
-    let same : p / 262144 ≡ (p + s - 1) / 262144 = eqb-true _ _ e in
-    (omega arith, (p / 262144, omega arith, omega arith))
-place_lies false p s e some fits = (omega arith, ((p + 262143) / 262144, omega arith, omega arith))
+    let same : p / region_bytes ≡ (p + s - 1) / region_bytes = eqb-true _ _ e in
+    (omega arith, (p / region_bytes, omega arith, omega arith))
+place_lies false p s e some fits = (omega arith, ((p + (region_bytes - 1)) / region_bytes, omega arith, omega arith))
 
 -- what fits a region each is packed at its places
 pub are_packed : (p : ℕ) (ss : List ℕ) → FitRegions ss → ArePacked p ss (places_from p ss)
@@ -24,12 +25,12 @@ are_packed p (s ∷ ss) fit =
     (here.0, here.1, are_packed (after p s) ss fit.2)
 
 -- a place rises with the end before it
-place_rises : (b c : Bool) (p q s : ℕ) → nat_eq (p / 262144) ((p + s - 1) / 262144) ≡ b → nat_eq (q / 262144) ((q + s - 1) / 262144) ≡ c → p ≤ q → place_if b p ≤ place_if c q
+place_rises : (b c : Bool) (p q s : ℕ) → nat_eq (p / region_bytes) ((p + s - 1) / region_bytes) ≡ b → nat_eq (q / region_bytes) ((q + s - 1) / region_bytes) ≡ c → p ≤ q → place_if b p ≤ place_if c q
 place_rises true true p q s d e le = le
 place_rises true false p q s d e le = omega arith
 place_rises false true p q s d e le =
     let apart = eqb-false _ _ d in
-    let same : q / 262144 ≡ (q + s - 1) / 262144 = eqb-true _ _ e in
+    let same : q / region_bytes ≡ (q + s - 1) / region_bytes = eqb-true _ _ e in
     omega arith
 place_rises false false p q s d e le = omega arith
 
@@ -44,7 +45,7 @@ place_above false p = omega arith
 
 -- and a size ends behind it
 after_above : (p s : ℕ) → p ≤ after p s
-after_above p s = omega (arith, place_above (nat_eq (p / 262144) ((p + s - 1) / 262144)) p)
+after_above p s = omega (arith, place_above (nat_eq (p / region_bytes) ((p + s - 1) / region_bytes)) p)
 
 module _ (cs : List Class) (kept : List ℕ) (keep : Object → Bool) where
   -- the young objects that are kept end no later than all of them
@@ -69,7 +70,7 @@ module _ (cs : List Class) (kept : List ℕ) (keep : Object → Bool) where
       ]
 
 -- more bytes take no fewer regions
-parts_rise : (a b : ℕ) → a ≤ b → parts_for 262144 a ≤ parts_for 262144 b
+parts_rise : (a b : ℕ) → a ≤ b → parts_for region_bytes a ≤ parts_for region_bytes b
 parts_rise a b le = omega arith
 
 -- a collection doesn't raise the regions used

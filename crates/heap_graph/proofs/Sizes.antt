@@ -2,6 +2,7 @@
 use Rattle.std.proofs.Common.{◌≡◌, ℕ, ◌+◌, ◌-◌, ◌/◌, ◌≤◌, Bool, true, false, not, ◌&&◌, List, [], ◌∷◌, map, filter, nat_eq, nat_le, refl, arith}
 use Rattle.std.specs.List.{AllByRecursion}
 use Rattle.std.proofs.lemmas.Bool.{leb-true, leb-false}
+use Rattle.model_numbers.specs.Numbers.{region_bytes, least_large, most_array_bytes, most_object_bytes}
 use Rattle.class_layout.specs.declared.kind.Kind.{Kind}
 use Rattle.class_layout.specs.declared.kind.Kind.TheVariants.{Ref}
 use Rattle.class_layout.specs.ClassList.{Class}
@@ -38,20 +39,20 @@ not-false true e = refl
 not-false false e = cc
 
 -- a shape that is not too large
-pub not-large : (cs : List Class) (shape : Shape) → is_too_large cs shape ≡ false → unrounded cs shape ≤ 1048576
+pub not-large : (cs : List Class) (shape : Shape) → is_too_large cs shape ≡ false → unrounded cs shape ≤ most_array_bytes
 not-large cs shape e = by (is_primitive_array shape) e
   where
-    by : (b : Bool) → not (nat_le (unrounded cs shape) (most_bytes b)) ≡ false → unrounded cs shape ≤ 1048576
-    by true e = leb-true (unrounded cs shape) 1048576 (not-false (nat_le (unrounded cs shape) 1048576) e)
-    by false e = let le : unrounded cs shape ≤ 262144 = leb-true (unrounded cs shape) 262144 (not-false (nat_le (unrounded cs shape) 262144) e) in omega (arith, le)
+    by : (b : Bool) → not (nat_le (unrounded cs shape) (most_bytes b)) ≡ false → unrounded cs shape ≤ most_array_bytes
+    by true e = leb-true (unrounded cs shape) most_array_bytes (not-false (nat_le (unrounded cs shape) most_array_bytes) e)
+    by false e = let le : unrounded cs shape ≤ most_object_bytes = leb-true (unrounded cs shape) most_object_bytes (not-false (nat_le (unrounded cs shape) most_object_bytes) e) in omega (arith, le)
 
 -- a shape that stands in a region fits one
-region-fits : (cs : List Class) (shape : Shape) → FitsRegion cs shape → unrounded cs shape ≤ 262144
+region-fits : (cs : List Class) (shape : Shape) → FitsRegion cs shape → unrounded cs shape ≤ most_object_bytes
 region-fits cs shape h = by (is_primitive_array shape) h.0 h.1
   where
-    by : (b : Bool) → not (nat_le (unrounded cs shape) (most_bytes b)) ≡ false → (b && nat_le 12288 (unrounded cs shape)) ≡ false → unrounded cs shape ≤ 262144
-    by true e small = let less = leb-false 12288 (unrounded cs shape) small in omega (arith, less)
-    by false e small = leb-true (unrounded cs shape) 262144 (not-false (nat_le (unrounded cs shape) 262144) e)
+    by : (b : Bool) → not (nat_le (unrounded cs shape) (most_bytes b)) ≡ false → (b && nat_le least_large (unrounded cs shape)) ≡ false → unrounded cs shape ≤ most_object_bytes
+    by true e small = let less = leb-false least_large (unrounded cs shape) small in omega (arith, less)
+    by false e small = leb-true (unrounded cs shape) most_object_bytes (not-false (nat_le (unrounded cs shape) most_object_bytes) e)
 
 sizes-fit : (cs : List Class) (os : List Object) → AllByRecursion (λ o. FitsRegion cs o.shape) os → FitRegions (map (size_of_object cs) os)
 sizes-fit cs [] h = tt
@@ -63,7 +64,7 @@ young-packed g h = are_packed 0 (young_sizes g) (sizes-fit g.classes (young_obje
 
 -- no size ends before it began
 pub after-above : (p s : ℕ) → p + s ≤ after p s
-after-above p s = by (nat_eq (p / 262144) ((p + s - 1) / 262144))
+after-above p s = by (nat_eq (p / region_bytes) ((p + s - 1) / region_bytes))
   where
     by : (b : Bool) → p + s ≤ place_if b p + s
     by true = omega arith

@@ -1,11 +1,12 @@
 -- Making an object, with a collection where there is no room.
 use Rattle.std.specs.Prelude.{ℕ, ◌+◌, ◌-◌, Bool, true, false, List, [], ◌∷◌, ◌++◌, nat_le}
+use Rattle.model_numbers.specs.Numbers.{image_base, image_length, region_bytes}
 use Rattle.heap_graph.specs.declared.names.Shape.{Shape}
 use Rattle.heap_graph.specs.declared.names.Place.{Place}
 use Rattle.heap_graph.specs.declared.names.Place.TheVariants.{Image, Young, Large}
 use Rattle.heap_graph.specs.declared.names.Stored.{Stored}
 use Rattle.heap_graph.specs.Graph.{Graph, image_fill}
-use Rattle.heap_graph.specs.Sizes.{size_in, is_large, image_base, image_bytes, region_bytes, parts_for, unrounded}
+use Rattle.heap_graph.specs.Sizes.{size_in, is_large, parts_for, unrounded}
 use Rattle.heap_graph.specs.Packing.{after, end_of, used, free}
 use Rattle.heap_graph.specs.Collection.{collect}
 
@@ -64,7 +65,7 @@ make_in_image false g shape slots = ImageFull (image_fill g) (size_in g.classes 
 
 abbrev pub make_by : Bool → Graph → Shape → List Stored → Allocated
 make_by true g shape slots = make_sealed g shape slots
-make_by false g shape slots = make_in_image (nat_le (image_fill g + size_in g.classes shape) image_bytes) g shape slots
+make_by false g shape slots = make_in_image (nat_le (image_fill g + size_in g.classes shape) image_length) g shape slots
 
 abbrev pub make : Graph → Shape → List Stored → Allocated
 make g shape slots = make_by g.sealed g shape slots

@@ -1,11 +1,11 @@
 -- What a fork does to the graph of the process that forks.
 use Rattle.std.specs.Prelude.{ℕ, ◌+◌, Bool, List, [], ◌∷◌, sum, nat_le}
+use Rattle.model_numbers.specs.Numbers.{zygote_base, zygote_length, page_bytes}
 use Rattle.class_layout.specs.ClassList.{Class}
 use Rattle.class_layout.specs.Kinds.{next_multiple}
 use Rattle.heap_graph.specs.declared.names.Place.{Place}
 use Rattle.heap_graph.specs.declared.names.Place.TheVariants.{Image, Zygote, Young, Large, Promoted}
 use Rattle.heap_graph.specs.Graph.{Object, Graph, size_of_object, zygote_fill}
-use Rattle.heap_graph.specs.Sizes.{page_bytes, zygote_base, zygote_bytes}
 use Rattle.heap_graph.specs.Packing.{young_sizes}
 
 -- where the next promoted object stands, from the start of the zygote window: the next whole page
@@ -17,7 +17,7 @@ abbrev pub promotion_bytes : Graph → ℕ
 promotion_bytes g = sum (young_sizes g)
 
 abbrev pub has_zygote_room : Graph → Bool
-has_zygote_room g = nat_le (promotion_start g + promotion_bytes g) zygote_bytes
+has_zygote_room g = nat_le (promotion_start g + promotion_bytes g) zygote_length
 
 -- a young object gets the next spot, a large one stays in its slot and is promoted
 abbrev pub promoted_place : ℕ → Place → Place

@@ -1,6 +1,7 @@
 -- The graph of a process.
 use Rattle.std.specs.Prelude.{ℕ, ◌+◌, ◌-◌, Bool, true, false, not, List, [], ◌∷◌, Option, map, filter, sum, max, nat_eq}
 use Rattle.std.specs.List.{find}
+use Rattle.model_numbers.specs.Numbers.{zygote_base}
 use Rattle.class_layout.specs.ClassList.{Class, builtin_classes}
 use Rattle.class_layout.specs.Names.{same_name}
 use Rattle.heap_graph.specs.declared.names.Shape.{Shape}
@@ -9,7 +10,7 @@ use Rattle.heap_graph.specs.declared.names.Place.TheVariants.{Image, Zygote, You
 use Rattle.heap_graph.specs.declared.names.Stored.{Stored}
 use Rattle.heap_graph.specs.declared.names.Root.{Root}
 use Rattle.heap_graph.specs.declared.names.Held.{Held}
-use Rattle.heap_graph.specs.Sizes.{size_in, zygote_base}
+use Rattle.heap_graph.specs.Sizes.{size_in}
 
 -- an object: its allocation number, its shape, the slots that were stored to, and its place
 pub record Object : Type 0 where

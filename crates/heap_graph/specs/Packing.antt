@@ -1,11 +1,12 @@
 -- Where young objects stand in regions, and how many regions a process uses.
 use Rattle.std.specs.Prelude.{ℕ, ◌+◌, ◌-◌, ◌/◌, Bool, true, false, List, [], ◌∷◌, map, filter, sum, nat_eq}
+use Rattle.model_numbers.specs.Numbers.{region_bytes}
 use Rattle.class_layout.specs.ClassList.{Class}
 use Rattle.class_layout.specs.Kinds.{next_multiple}
 use Rattle.heap_graph.specs.declared.names.Place.{Place}
 use Rattle.heap_graph.specs.declared.names.Place.TheVariants.{Image, Zygote, Young, Large, Promoted}
 use Rattle.heap_graph.specs.Graph.{Object, Graph, is_young, size_of_object}
-use Rattle.heap_graph.specs.Sizes.{unrounded, region_bytes, parts_for}
+use Rattle.heap_graph.specs.Sizes.{unrounded, parts_for}
 
 -- the start of the first region from p on
 abbrev pub up : ℕ → ℕ

@@ -1,6 +1,7 @@
 -- Reaching as a path, and graphs in which nothing dangles.
 use Rattle.std.specs.Prelude.{◌≡◌, ℕ, ◌+◌, ◌*◌, ◌<◌, ◌≤◌, ◌⊎◌, true, false, List, [], ◌∷◌, map}
 use Rattle.std.specs.List.{flat_map}
+use Rattle.model_numbers.specs.Numbers.{region_bytes}
 use Rattle.class_layout.specs.ClassList.{Class}
 use Rattle.class_layout.specs.Placing.{IsIn}
 use Rattle.heap_graph.specs.declared.names.Held.TheVariants as held
@@ -63,11 +64,11 @@ FitsRegion cs shape = (is_too_large cs shape ≡ false) × (is_large cs shape �
 -- sizes that fit a region each
 abbrev pub FitRegions : List ℕ → Type 0
 FitRegions [] = Unit {0}
-FitRegions (s ∷ ss) = (0 < s) × (s ≤ 262144) × FitRegions ss
+FitRegions (s ∷ ss) = (0 < s) × (s ≤ region_bytes) × FitRegions ss
 
 -- s bytes at p lie in one region
 abbrev pub IsInRegion : ℕ → ℕ → Type 0
-IsInRegion p s = (region : ℕ) × (region * 262144 ≤ p) × (p + s ≤ (region + 1) * 262144)
+IsInRegion p s = (region : ℕ) × (region * region_bytes ≤ p) × (p + s ≤ (region + 1) * region_bytes)
 
 -- each size stands at its place in one region, behind the sizes before it, the first from p on
 abbrev pub ArePacked : ℕ → List ℕ → List ℕ → Type 0

@@ -1,30 +1,10 @@
--- Sizes of objects, and the numbers of the windows. All are bytes.
+-- Sizes of objects, in bytes.
 use Rattle.std.specs.Prelude.{ℕ, ◌+◌, ◌-◌, ◌/◌, Bool, true, false, not, ◌&&◌, List, nat_le}
+use Rattle.model_numbers.specs.Numbers.{least_large, most_array_bytes, most_object_bytes}
 use Rattle.class_layout.specs.Kinds.{array_end, is_ref, next_multiple}
 use Rattle.class_layout.specs.ClassList.{Class, layout_of}
 use Rattle.heap_graph.specs.declared.names.Shape.{Shape}
 use Rattle.heap_graph.specs.declared.names.Shape.TheVariants.{Instance, Array}
-
-abbrev pub page_bytes : ℕ
-page_bytes = 4096
-
-abbrev pub card_bytes : ℕ
-card_bytes = 1024
-
-abbrev pub region_bytes : ℕ
-region_bytes = 262144
-
-abbrev pub image_base : ℕ
-image_base = 0x20000000
-
-abbrev pub image_bytes : ℕ
-image_bytes = 67108864
-
-abbrev pub zygote_base : ℕ
-zygote_base = 0x30000000
-
-abbrev pub zygote_bytes : ℕ
-zygote_bytes = 268435456
 
 -- how many parts of this many bytes it takes to hold so many bytes
 abbrev pub parts_for : ℕ → ℕ → ℕ
@@ -43,14 +23,14 @@ abbrev pub is_primitive_array : Shape → Bool
 is_primitive_array (Instance class) = false
 is_primitive_array (Array kind count) = not (is_ref kind)
 
--- an array of primitives of at least 12,288 bytes
+-- a large object: an array of primitives of at least 12,288 bytes
 abbrev pub is_large : List Class → Shape → Bool
-is_large cs shape = is_primitive_array shape && nat_le 12288 (unrounded cs shape)
+is_large cs shape = is_primitive_array shape && nat_le least_large (unrounded cs shape)
 
 -- an object may have 1,048,576 bytes where it is an array of primitives, else 262,144
 abbrev pub most_bytes : Bool → ℕ
-most_bytes true = 1048576
-most_bytes false = 262144
+most_bytes true = most_array_bytes
+most_bytes false = most_object_bytes
 
 abbrev pub is_too_large : List Class → Shape → Bool
 is_too_large cs shape = not (nat_le (unrounded cs shape) (most_bytes (is_primitive_array shape)))

@@ -1,23 +1,12 @@
 -- Tables of addresses: where the objects of a graph stand, by their numbers.
 use Rattle.std.specs.Prelude.{◌≡◌, ◌↔◌, ℕ, ◌+◌, ◌-◌, ◌*◌, ◌/◌, ◌%◌, ◌^◌, ◌<◌, Bool, true, false, List, map}
 use Rattle.std.specs.List.{zip}
+use Rattle.model_numbers.specs.Numbers.{large_base, large_slot_bytes, large_slot_count, region_base, region_bytes}
 use Rattle.class_layout.specs.Placing.{IsIn}
 use Rattle.heap_graph.specs.declared.names.Place.{Place}
 use Rattle.heap_graph.specs.declared.names.Place.TheVariants.{Image, Zygote, Young, Large, Promoted}
 use Rattle.heap_graph.specs.Graph.{Object, Graph}
 use Rattle.heap_graph.specs.Packing.{places_from, young_objects, young_sizes}
-use Rattle.heap_graph.specs.Sizes.{region_bytes}
-
--- where the regions begin
-abbrev pub region_base : ℕ
-region_base = 0x40000000
-
--- where the large slots begin
-abbrev pub slot_base : ℕ
-slot_base = 0x80000000
-
-abbrev pub slot_bytes : ℕ
-slot_bytes = 1048576
 
 -- the young objects' numbers by rising number, each with its packing place
 abbrev pub packing : Graph → List (ℕ × ℕ)
@@ -29,7 +18,7 @@ region_of at = (at - region_base) / region_bytes
 
 -- the first byte of one of the 512 large slots
 abbrev pub IsSlot : ℕ → Type 0
-IsSlot at = (k : ℕ) × (k < 512) × (at ≡ slot_base + k * slot_bytes)
+IsSlot at = (k : ℕ) × (k < large_slot_count) × (at ≡ large_base + k * large_slot_bytes)
 
 -- an address of one of 2N regions, as far from the region's start as a packing place is from that of its own
 abbrev pub IsPackedAt : ℕ → ℕ → ℕ → Type 0

@@ -6,6 +6,7 @@ use Rattle.std.proofs.lemmas.Bool.{eqb-true, eq-eqb, and_parts, and_from, or_cas
 use Rattle.std.proofs.lemmas.Map.Made.{length-le_from_is_member}
 use Rattle.std.proofs.lemmas.List.{length-map}
 use Rattle.std.proofs.lemmas.List.Sums.{sum_by-cons}
+use Rattle.model_numbers.specs.Numbers.{region_bytes, page_bytes, most_array_bytes, most_regions, number_limit}
 use Rattle.class_layout.specs.ClassList.{Class}
 use Rattle.heap_graph.specs.declared.names.Place.{Place}
 use Rattle.heap_graph.specs.declared.names.Place.TheVariants as place
@@ -31,7 +32,7 @@ sum-le-end p [] = omega arith
 sum-le-end p (s ∷ ss) = omega (arith, after-above p s, sum-le-end (after p s) ss, sum_by-cons (λ x. x) s ss)
 
 -- the young objects fit the budget
-pub young-le : (g : Graph) → IsFormed g → sum (young_sizes g) ≤ 134217728
+pub young-le : (g : Graph) → IsFormed g → sum (young_sizes g) ≤ most_regions * region_bytes
 young-le g formed =
     let placed = formed.regions in
     omega (arith, sum-le-end 0 (young_sizes g), formed.regions, formed.budget)
@@ -54,17 +55,17 @@ eight-each cs bytes end (o ∷ os) h =
     by place.Large behind top young rest = omega (arith, rest, unrounded-least cs o.shape)
     by place.Promoted behind top young rest = omega (arith, rest, unrounded-least cs o.shape)
 
-pub few-objects : (g : Graph) → IsFormed g → length g.objects < 268435456
+pub few-objects : (g : Graph) → IsFormed g → length g.objects < number_limit
 few-objects g formed =
     let placed = placed_of g formed in
     omega (arith, eight-each g.classes 0 0 g.objects formed.zygote, placed.image_fits, placed.zygote_fits, placed.regions, formed.budget)
 
 -- a shape of a class list
-shape-bytes : (cs : List Class) (shape : Shape) → IsShape cs shape → unrounded cs shape ≤ 1048576
+shape-bytes : (cs : List Class) (shape : Shape) → IsShape cs shape → unrounded cs shape ≤ most_array_bytes
 shape-bytes cs (Instance class) h = not-large cs (Instance class) h.1
 shape-bytes cs (Array kind count) h = not-large cs (Array kind count) h
 
-pub bytes-le : (cs : List Class) (os : List Object) → AreObjects cs os → All (λ o. unrounded cs o.shape ≤ 1048576) os
+pub bytes-le : (cs : List Class) (os : List Object) → AreObjects cs os → All (λ o. unrounded cs o.shape ≤ most_array_bytes) os
 bytes-le cs [] h k d less = absurd (omega arith)
 bytes-le cs (o ∷ os) h zero d less = shape-bytes cs o.shape h.0
 bytes-le cs (o ∷ os) h (suc k) d less = bytes-le cs os h.2 k d (omega arith)
@@ -94,8 +95,8 @@ pub length-count : (start n : ℕ) → length (count_from start n) ≡ n
 length-count start zero = refl
 length-count start (suc n) = omega (arith, length-count (start + 1) n)
 
-pub length-large : (cs : List Class) (o : Object) → length (large_pages cs o) ≡ parts_for 4096 (unrounded cs o.shape)
-length-large cs o = length-map (count_from 0 (parts_for 4096 (unrounded cs o.shape))) (Large o.number) ∙ length-count 0 (parts_for 4096 (unrounded cs o.shape))
+pub length-large : (cs : List Class) (o : Object) → length (large_pages cs o) ≡ parts_for page_bytes (unrounded cs o.shape)
+length-large cs o = length-map (count_from 0 (parts_for page_bytes (unrounded cs o.shape))) (Large o.number) ∙ length-count 0 (parts_for page_bytes (unrounded cs o.shape))
 
 -- a region has 64 pages
 pages-le : (cs : List Class) (os : List Object) → length (flat_map (λ o. pages_if_promoted cs o o.place) os) ≤ 64 * total (λ o. cost cs o o.place) os
@@ -159,14 +160,14 @@ among-has P (p ∷ ps) q h e =
     ]
 
 -- how many pages stand
-standing-length : (g : Graph) → length (standing_pages g) ≡ parts_for 4096 (image_fill g) + parts_for 4096 (zygote_fill g) + length (promoted_pages g)
+standing-length : (g : Graph) → length (standing_pages g) ≡ parts_for page_bytes (image_fill g) + parts_for page_bytes (zygote_fill g) + length (promoted_pages g)
 standing-length g =
-    let image : length (image_pages g) ≡ parts_for 4096 (image_fill g) =
-    length-map (count_from 0 (parts_for 4096 (image_fill g))) Image ∙ length-count 0 (parts_for 4096 (image_fill g)) in
-    let zygote : length (zygote_pages g) ≡ parts_for 4096 (zygote_fill g) =
-    length-map (count_from 0 (parts_for 4096 (zygote_fill g))) Zygote ∙ length-count 0 (parts_for 4096 (zygote_fill g)) in
-    let both : length (image_pages g ++ zygote_pages g) ≡ parts_for 4096 (image_fill g) + parts_for 4096 (zygote_fill g) =
-    length-append (image_pages g) (zygote_pages g) ∙ ap (λ n. n + length (zygote_pages g)) image ∙ ap (λ n. parts_for 4096 (image_fill g) + n) zygote in
+    let image : length (image_pages g) ≡ parts_for page_bytes (image_fill g) =
+    length-map (count_from 0 (parts_for page_bytes (image_fill g))) Image ∙ length-count 0 (parts_for page_bytes (image_fill g)) in
+    let zygote : length (zygote_pages g) ≡ parts_for page_bytes (zygote_fill g) =
+    length-map (count_from 0 (parts_for page_bytes (zygote_fill g))) Zygote ∙ length-count 0 (parts_for page_bytes (zygote_fill g)) in
+    let both : length (image_pages g ++ zygote_pages g) ≡ parts_for page_bytes (image_fill g) + parts_for page_bytes (zygote_fill g) =
+    length-append (image_pages g) (zygote_pages g) ∙ ap (λ n. n + length (zygote_pages g)) image ∙ ap (λ n. parts_for page_bytes (image_fill g) + n) zygote in
     length-append (image_pages g ++ zygote_pages g) (promoted_pages g) ∙ ap (λ n. n + length (promoted_pages g)) both
 
 pub touched-le : (p : Part) → IsSound p → length p.touched ≤ 131072
@@ -174,6 +175,6 @@ touched-le p sound =
     let g : Graph = p.graph in
     let fits : length p.touched ≤ length (standing_pages g) =
     length-le_from_is_member page-laws p.touched (standing_pages g) sound.touched_once (λ q e. among-has (λ page. is_touched (standing_pages g) page ≡ true) p.touched q sound.touched_stand e) in
-    let few : parts_for 4096 (image_fill g) + parts_for 4096 (zygote_fill g) + length (promoted_pages g) ≤ 131072 =
+    let few : parts_for page_bytes (image_fill g) + parts_for page_bytes (zygote_fill g) + length (promoted_pages g) ≤ 131072 =
     omega (arith, promoted-le g sound.formed, sound.formed.image_fits, sound.formed.zygote_fits) in
     omega (arith, fits, standing-length g, few)

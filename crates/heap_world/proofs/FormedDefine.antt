@@ -2,6 +2,7 @@
 use Rattle.std.proofs.Common.{◌≡◌, ℕ, ◌<◌, ◌≤◌, Bool, true, false, true≢false, ◌||◌, is_some, List, [], ◌∷◌, ◌++◌, Option, None, Some, IfOk, length, nat_le, refl}
 use Rattle.std.proofs.lemmas.Bool.{or_parts, leb-false}
 use Rattle.std.proofs.lemmas.List.Quantifiers.{position-Some}
+use Rattle.model_numbers.specs.Numbers.{field_limit}
 use Rattle.class_layout.specs.declared.kind.FieldDecl.{FieldDecl}
 use Rattle.class_layout.specs.Names.{same_name}
 use Rattle.class_layout.specs.ClassList.{Class, IsClassList, layout_of, number_of, repeats, occurs_in, define_class, define_new, define_under, define_after_limit, define_after_fields}
@@ -23,7 +24,7 @@ none_from : (o : Option ℕ) → is_some o ≡ false → o ≡ None
 none_from None e = refl
 none_from (Some k) e = absurd (true≢false e)
 
-module _ (cs : List Class) (name : List ℕ) (fs : List FieldDecl) (formed : IsClassList cs) (short : length fs ≤ 4096) where
+module _ (cs : List Class) (name : List ℕ) (fs : List FieldDecl) (formed : IsClassList cs) (short : length fs ≤ field_limit) where
   -- the steps of defining a class, the last one first
   after_fields : (p : ℕ) → number_of cs name ≡ None → p < length cs → length cs < 65536 → (b : Bool) → (repeats fs || occurs_in (layout_of cs p) fs) ≡ b
       → IfOk (define_after_fields cs (record { name = name; parent = Some p; fields = fs }) b) (IsGrown cs)

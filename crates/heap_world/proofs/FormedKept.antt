@@ -2,6 +2,7 @@
 use Rattle.std.proofs.Common.{◌≡◌, ℕ, ◌+◌, ◌<◌, ◌≤◌, true, false, List, [], ◌∷◌, ◌++◌, Some, map, filter, refl, sym, ap, subst, ◌∙◌, arith}
 use Rattle.std.specs.List.{AllByRecursion, IsDistinct}
 use Rattle.std.proofs.lemmas.Bool.{leb-true, or_parts}
+use Rattle.model_numbers.specs.Numbers.{zygote_length, region_bytes, page_bytes, most_regions, number_limit}
 use Rattle.class_layout.specs.ClassList.{Class, IsClassList, builtin_classes}
 use Rattle.class_layout.proofs.ClassLists.{IsClassList-builtin}
 use Rattle.class_layout.specs.Kinds.{next_multiple}
@@ -39,10 +40,10 @@ use Rattle.heap_world.proofs.PlacedSame.{cleared-same, end-same, grown-same, pla
 pub record IsCore (g : Graph) : Type 0 where
   pub classes : IsClassList g.classes
   pub numbers : AreRising 0 g.next g.objects
-  pub next : g.next ≤ 268435456
+  pub next : g.next ≤ number_limit
   pub objects : AreObjects g.classes g.objects
   pub closed : IsClosed g
-  pub budget : g.budget ≤ 512
+  pub budget : g.budget ≤ most_regions
   pub root_names : IsDistinct SameNamed g.roots
   pub values : AllByRecursion HoldsValues g.objects
 
@@ -168,7 +169,7 @@ collect_placed g sealed formed =
     let kept : List Object = filter keep g.objects in
     let after : List Object = map (cleared (numbers kept)) kept in
     let same = cleared-same g.classes (numbers kept) kept in
-    let ends = ap (parts_for 262144) (end-same g.classes g.classes 0 kept after same) in
+    let ends = ap (parts_for region_bytes) (end-same g.classes g.classes 0 kept after same) in
     let placed = placed-filter g.classes keep (loose-dropped g sealed) g.budget g.objects (omega (arith, used_no_more g, used-is g, used-is (collect g), ends)) (sealed-placed g formed) in
     subst (λ b. IsPlaced g.classes b g.budget after) (sym sealed) (placed-same g.classes g.classes true g.budget kept after same placed)
 
@@ -191,8 +192,8 @@ collect_formed g sealed formed =
 -- a promotion
 promoted_placed : (g : Graph) → g.sealed ≡ true → has_zygote_room g ≡ true → IsFormed g → IsPlaced g.classes g.sealed g.budget (promoted g).objects
 promoted_placed g sealed room formed =
-    let fits : promotion_start g + promotion_bytes g ≤ 268435456 = leb-true (promotion_start g + promotion_bytes g) 268435456 room in
-    let start = ap (next_multiple 4096) (sym (top-is g.classes g.objects formed.zygote)) in
+    let fits : promotion_start g + promotion_bytes g ≤ zygote_length = leb-true (promotion_start g + promotion_bytes g) zygote_length room in
+    let start = ap (next_multiple page_bytes) (sym (top-is g.classes g.objects formed.zygote)) in
     subst (λ b. IsPlaced g.classes b g.budget (promoted g).objects) (sym sealed)
     (placed-promoted g.classes g.budget (promotion_start g) g.objects start (omega (arith, fits, young-sum g.classes g.objects)) (sealed-placed g formed))
 
@@ -238,7 +239,7 @@ store_formed g o new found has value fits formed =
     in formed_from after core (placed-same g.classes g.classes g.sealed g.budget g.objects after.objects (stored-same g.classes g.objects o.number new) (placed_of g formed))
 
 -- one more object, which a root holds then
-module _ (g : Graph) (shape : Shape) (slots : List Stored) (place : Place) (room : g.next < 268435456) (is : IsShape g.classes shape) (are : AreSlots g.classes shape slots) (aims : SlotsAim (numbers g.objects) slots)
+module _ (g : Graph) (shape : Shape) (slots : List Stored) (place : Place) (room : g.next < number_limit) (is : IsShape g.classes shape) (are : AreSlots g.classes shape slots) (aims : SlotsAim (numbers g.objects) slots)
     (fit : AreValues slots) (formed : IsFormed g) where
   -- the new object
   abbrev pub made : Object
@@ -270,7 +271,7 @@ no_names : IsDistinct SameNamed []
 unfolding IsDistinct
 no_names = tt
 
-pub first_formed : (budget number : ℕ) → budget ≤ 512 → number ≤ 268435456 → IsFormed (first_graph budget number)
+pub first_formed : (budget number : ℕ) → budget ≤ most_regions → number ≤ number_limit → IsFormed (first_graph budget number)
 first_formed budget number few low =
     let core : IsCore (first_graph budget number) =
     record {

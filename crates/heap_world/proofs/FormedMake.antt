@@ -1,6 +1,7 @@
 -- Making an object keeps a graph formed.
 use Rattle.std.proofs.Common.{◌≡◌, ℕ, ◌+◌, ◌<◌, ◌≤◌, Bool, true, false, not, List, [], ◌∷◌, ◌++◌, Option, None, Some, Result, Ok, Err, IfOk, length, length-append, nat_le, refl, sym, ap, subst, ◌∙◌, arith, lit≤}
 use Rattle.std.proofs.lemmas.Bool.{leb-false, leb-true}
+use Rattle.model_numbers.specs.Numbers.{image_base, image_length, region_bytes, most_object_bytes, number_limit}
 use Rattle.class_layout.specs.declared.kind.Kind.TheVariants.{Ref}
 use Rattle.class_layout.specs.ClassList.{Class, IsClassList, builtin_classes, layout_of, number_of}
 use Rattle.class_layout.specs.Layout.{field_named}
@@ -18,7 +19,7 @@ use Rattle.heap_graph.specs.Collection.{collect}
 use Rattle.heap_graph.specs.Graph.{Graph, Object, image_fill}
 use Rattle.heap_graph.specs.Packing.{after, cost, end_of, free}
 use Rattle.heap_graph.specs.Paths.{numbers}
-use Rattle.heap_graph.specs.Sizes.{is_large, is_too_large, image_base, image_bytes, parts_for, size_in}
+use Rattle.heap_graph.specs.Sizes.{is_large, is_too_large, parts_for, size_in}
 use Rattle.heap_graph.specs.Values.{slot_of}
 use Rattle.heap_graph.proofs.Kept.{nothing_dangles}
 use Rattle.heap_world.specs.declared.reply.Refusal.{Refusal}
@@ -61,12 +62,12 @@ module _ (g : Graph) (shape : Shape) (slots : List Stored) (formed : IsFormed g)
   heap_turn false = refl
 
   heap_fits : (b : Bool) → needs_if b g shape ≤ free g
-      → parts_for 262144 (young_next g.classes (young_end g.classes 0 g.objects) (at_place (heap_place b)) (heap_place b))
+      → parts_for region_bytes (young_next g.classes (young_end g.classes 0 g.objects) (at_place (heap_place b)) (heap_place b))
       + (total (λ o. cost g.classes o o.place) g.objects + cost g.classes (at_place (heap_place b)) (heap_place b)) ≤ g.budget
   heap_fits true e = omega (arith, e, used-is g, costs-is g, formed.regions)
   heap_fits false e =
-      let end : parts_for 262144 (after (end_of g) (size_in g.classes shape)) ≡ parts_for 262144 (after (young_end g.classes 0 g.objects) (size_in g.classes shape)) =
-      ap (λ n. parts_for 262144 (after n (size_in g.classes shape))) (end-is g.classes 0 g.objects) in
+      let end : parts_for region_bytes (after (end_of g) (size_in g.classes shape)) ≡ parts_for region_bytes (after (young_end g.classes 0 g.objects) (size_in g.classes shape)) =
+      ap (λ n. parts_for region_bytes (after n (size_in g.classes shape))) (end-is g.classes 0 g.objects) in
       omega (arith, e, end, used-is g, costs-is g, formed.regions)
 
   -- what has room is placed
@@ -80,14 +81,14 @@ module _ (g : Graph) (shape : Shape) (slots : List Stored) (formed : IsFormed g)
       (placed-heap g.classes g.budget g.objects new (heap_suits large refl) (heap_turn large) (heap_fits large fits) placed)
 
   -- so is what the image has room for
-  image_placed : g.sealed ≡ false → nat_le (image_fill g + size_in g.classes shape) image_bytes ≡ true
+  image_placed : g.sealed ≡ false → nat_le (image_fill g + size_in g.classes shape) image_length ≡ true
       → IsPlaced g.classes g.sealed g.budget (g.objects ++ at_place (place.Image (image_base + image_fill g)) ∷ [])
   image_placed unsealed room =
-      let fits : image_fill g + size_in g.classes shape ≤ 67108864 = leb-true (image_fill g + size_in g.classes shape) 67108864 room in
+      let fits : image_fill g + size_in g.classes shape ≤ image_length = leb-true (image_fill g + size_in g.classes shape) image_length room in
       placed-image g.classes g.sealed g.budget g.objects (at_place (place.Image (image_base + image_fill g))) unsealed (ap (λ n. place.Image (image_base + n)) (fill-is g))
       (omega (arith, fits, fill-is g)) (placed_of g formed)
 
-module _ (g : Graph) (root : List ℕ) (shape : Shape) (slots : List Stored) (room : g.next < 268435456) (is : IsShape g.classes shape) (are : AreSlots g.classes shape slots)
+module _ (g : Graph) (root : List ℕ) (shape : Shape) (slots : List Stored) (room : g.next < number_limit) (is : IsShape g.classes shape) (are : AreSlots g.classes shape slots)
     (aims : SlotsAim (numbers g.objects) slots) (still : SlotsAim (numbers (collect g).objects) slots) (fit : AreValues slots) (formed : IsFormed g) where
   -- the steps of making, the last one first
   made_if_collected : g.sealed ≡ true → (b : Bool) → has_room (collect g) shape ≡ b → IsMade g root (make_if_collected b (collect g) shape slots)
@@ -100,13 +101,13 @@ module _ (g : Graph) (root : List ℕ) (shape : Shape) (slots : List Stored) (ro
   made_if sealed true e = made_formed g shape slots (heap_place (is_large g.classes shape)) room is are aims fit formed (heap_placed g shape slots formed sealed e) root
   made_if sealed false e = made_if_collected sealed (has_room (collect g) shape) refl
 
-  made_in_image : g.sealed ≡ false → (b : Bool) → nat_le (image_fill g + size_in g.classes shape) image_bytes ≡ b → IsMade g root (make_in_image b g shape slots)
+  made_in_image : g.sealed ≡ false → (b : Bool) → nat_le (image_fill g + size_in g.classes shape) image_length ≡ b → IsMade g root (make_in_image b g shape slots)
   made_in_image unsealed true e = made_formed g shape slots (place.Image (image_base + image_fill g)) room is are aims fit formed (image_placed g shape slots formed unsealed e) root
   made_in_image unsealed false e = tt
 
   made_by : (sealed : Bool) → g.sealed ≡ sealed → IsMade g root (make_by sealed g shape slots)
   made_by true e = made_if e (has_room g shape) refl
-  made_by false e = made_in_image e (nat_le (image_fill g + size_in g.classes shape) image_bytes) refl
+  made_by false e = made_in_image e (nat_le (image_fill g + size_in g.classes shape) image_length) refl
 
   is_made : IsMade g root (make g shape slots)
   is_made = made_by g.sealed refl
@@ -125,11 +126,11 @@ module _ (p : Part) (root : List ℕ) (formed : IsFormed p.graph) where
   -- an object with slots
   slots_keeps : (shape : Shape) (slots : List Stored) → IsShape p.graph.classes shape → AreSlots p.graph.classes shape slots → SlotsAim (numbers p.graph.objects) slots
       → SlotsAim (numbers (collect p.graph).objects) slots → AreValues slots → Keeps (make_slots p root shape slots)
-  slots_keeps shape slots is are aims still fit = by (nat_le 268435456 p.graph.next) refl
+  slots_keeps shape slots is are aims still fit = by (nat_le number_limit p.graph.next) refl
     where
-      by : (b : Bool) → nat_le 268435456 p.graph.next ≡ b → Keeps (make_numbered b p root shape slots)
+      by : (b : Bool) → nat_le number_limit p.graph.next ≡ b → Keeps (make_numbered b p root shape slots)
       by true e = formed
-      by false e = after_make_keeps p root shape (make p.graph shape slots) (is_made p.graph root shape slots (leb-false 268435456 p.graph.next e) is are aims still fit formed) formed
+      by false e = after_make_keeps p root shape (make p.graph shape slots) (is_made p.graph root shape slots (leb-false number_limit p.graph.next e) is are aims still fit formed) formed
 
   -- a shape that is not too large
   pub shape_keeps : (shape : Shape) → (is_too_large p.graph.classes shape ≡ false → IsShape p.graph.classes shape) → Keeps (make_shape p root shape)
@@ -154,7 +155,7 @@ weak_layout cs list = ap (λ ds. layout_of ds 1) list.builtin.1 ∙ layout_of-pu
 -- so they have their shape, and in it the slot of the referent
 weak_shape : (cs : List Class) → IsClassList cs → IsShape cs (Instance 1)
 weak_shape cs list =
-    (omega (arith, ap length list.builtin.1, length-append builtin_classes list.builtin.0), ap (λ l. not (nat_le l.end 262144)) (weak_layout cs list))
+    (omega (arith, ap length list.builtin.1, length-append builtin_classes list.builtin.0), ap (λ l. not (nat_le l.end most_object_bytes)) (weak_layout cs list))
 
 weak_slot : (cs : List Class) → IsClassList cs → HasSlot cs (Instance 1) referent_at
 weak_slot cs list = (referent_name, ap (λ l. field_named l referent_name) (weak_layout cs list))

@@ -3,6 +3,7 @@ use Rattle.std.proofs.Common.{◌≡◌, ℕ, ◌+◌, Bool, true, false, true�
 use Rattle.std.specs.List.{list_any, find}
 use Rattle.std.proofs.lemmas.Bool.{or_parts, or_from, eqb-true, eq-eqb, ne_eqb}
 use Rattle.std.proofs.lemmas.Option.{same_Some}
+use Rattle.model_numbers.specs.Numbers.{most_object_bytes}
 use Rattle.class_layout.specs.declared.kind.FieldAt.{FieldAt}
 use Rattle.class_layout.specs.ClassList.{Class}
 use Rattle.class_layout.specs.Layout.{field_named}
@@ -27,7 +28,7 @@ module _ (cs ds : List Class) where
   -- with more classes, a shape is one still
   shape-grown : (shape : Shape) → IsShape cs shape → IsShape (cs ++ ds) shape
   shape-grown (Instance class) h =
-      (omega (arith, h.0, length-append cs ds), ap (λ l. not (nat_le l.end 262144)) (layout_of-push_old cs ds class h.0) ∙ h.1)
+      (omega (arith, h.0, length-append cs ds), ap (λ l. not (nat_le l.end most_object_bytes)) (layout_of-push_old cs ds class h.0) ∙ h.1)
   shape-grown (Array kind count) h = h
 
   -- and has the slots that it had

@@ -1,6 +1,7 @@
 -- What holds of the places of a graph's objects, apart from the rest of the graph.
 use Rattle.std.proofs.Common.{◌≡◌, ℕ, ◌+◌, ◌≤◌, Bool, true, false, cond, inl, inr, List, [], ◌∷◌, map, filter, max, refl, ap, arith}
 use Rattle.std.specs.List.{AllByRecursion}
+use Rattle.model_numbers.specs.Numbers.{image_length, zygote_length, region_bytes}
 use Rattle.class_layout.specs.ClassList.{Class}
 use Rattle.heap_graph.specs.declared.names.Place.{Place}
 use Rattle.heap_graph.specs.declared.names.Place.TheVariants as place
@@ -62,10 +63,10 @@ pub record IsPlaced (cs : List Class) (sealed : Bool) (budget : ℕ) (os : List 
   pub places : AllByRecursion (λ o. SuitsShape cs o o.place) os
   pub turns : AreInTurn 0 os
   pub image : FillImage cs 0 os
-  pub image_fits : total (λ o. image_size cs o o.place) os ≤ 67108864
+  pub image_fits : total (λ o. image_size cs o o.place) os ≤ image_length
   pub zygote : FillZygote cs 0 os
-  pub zygote_fits : zygote_top cs 0 os ≤ 268435456
-  pub regions : parts_for 262144 (young_end cs 0 os) + total (λ o. cost cs o o.place) os ≤ budget
+  pub zygote_fits : zygote_top cs 0 os ≤ zygote_length
+  pub regions : parts_for region_bytes (young_end cs 0 os) + total (λ o. cost cs o o.place) os ≤ budget
 
 pub fill-is : (g : Graph) → image_fill g ≡ total (λ o. image_size g.classes o o.place) g.objects
 fill-is g = sum-total (λ o. image_size g.classes o o.place) g.objects
@@ -73,8 +74,8 @@ fill-is g = sum-total (λ o. image_size g.classes o o.place) g.objects
 pub costs-is : (g : Graph) → costs g ≡ total (λ o. cost g.classes o o.place) g.objects
 costs-is g = sum-total (λ o. cost g.classes o o.place) g.objects
 
-pub used-is : (g : Graph) → used g ≡ parts_for 262144 (young_end g.classes 0 g.objects)
-used-is g = ap (parts_for 262144) (end-is g.classes 0 g.objects)
+pub used-is : (g : Graph) → used g ≡ parts_for region_bytes (young_end g.classes 0 g.objects)
+used-is g = ap (parts_for region_bytes) (end-is g.classes 0 g.objects)
 
 pub placed_of : (g : Graph) → IsFormed g → IsPlaced g.classes g.sealed g.budget g.objects
 placed_of g formed = record {

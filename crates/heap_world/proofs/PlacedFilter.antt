@@ -1,6 +1,7 @@
 -- What a collection keeps stays placed.
 use Rattle.std.proofs.Common.{◌≡◌, ℕ, ◌+◌, ◌≤◌, Bool, true, false, true≢false, cond, List, [], ◌∷◌, ◌++◌, filter, refl, sym, ap, subst, ◌∙◌, arith}
 use Rattle.std.specs.List.{AllByRecursion, flat_map}
+use Rattle.model_numbers.specs.Numbers.{region_bytes}
 use Rattle.class_layout.specs.ClassList.{Class}
 use Rattle.heap_graph.specs.declared.names.Place.{Place}
 use Rattle.heap_graph.specs.declared.names.Place.TheVariants as place
@@ -104,7 +105,7 @@ module _ (cs : List Class) (keep : Object → Bool) (immune : (o : Object) → k
       by false e rest = rest ∙ ap (λ ps. ps ++ flat_map (λ o. pages_if_promoted cs o o.place) os) (sym (no_pages o e))
 
   -- what is kept is placed, where its young objects end no later
-  pub placed-filter : (budget : ℕ) (os : List Object) → parts_for 262144 (young_end cs 0 (filter keep os)) ≤ parts_for 262144 (young_end cs 0 os) → IsPlaced cs true budget os
+  pub placed-filter : (budget : ℕ) (os : List Object) → parts_for region_bytes (young_end cs 0 (filter keep os)) ≤ parts_for region_bytes (young_end cs 0 os) → IsPlaced cs true budget os
       → IsPlaced cs true budget (filter keep os)
   placed-filter budget os fewer h = record {
     before_seal = λ e. absurd (true≢false e);

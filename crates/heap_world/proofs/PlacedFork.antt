@@ -2,6 +2,7 @@
 use Rattle.std.proofs.Common.{◌≡◌, ℕ, ◌+◌, ◌-◌, ◌≤◌, ◌⊎◌, true, true≢false, cond, inl, inr, List, [], ◌∷◌, map, filter, max, sum, refl, ap, ◌∙◌, arith}
 use Rattle.std.specs.List.{AllByRecursion}
 use Rattle.std.proofs.lemmas.List.Sums.{sum_by-cons}
+use Rattle.model_numbers.specs.Numbers.{zygote_base, zygote_length, page_bytes}
 use Rattle.class_layout.specs.ClassList.{Class}
 use Rattle.class_layout.specs.Kinds.{next_multiple}
 use Rattle.heap_graph.specs.declared.names.Place.{Place}
@@ -9,7 +10,6 @@ use Rattle.heap_graph.specs.declared.names.Place.TheVariants as place
 use Rattle.heap_graph.specs.Fork.{next_spot, promoted_from, promoted_place}
 use Rattle.heap_graph.specs.Graph.{Object, image_size, is_young, size_of_object}
 use Rattle.heap_graph.specs.Packing.{cost}
-use Rattle.heap_graph.specs.Sizes.{zygote_base}
 use Rattle.heap_world.specs.Formed.{AreInTurn, FillImage, FillZygote, IsBehindImage, IsBehindZygote, SuitsShape, turn, zygote_next}
 use Rattle.heap_world.proofs.Placed.{IsPlaced, young_end, young_next, zygote_top}
 use Rattle.heap_graph.proofs.Totals.{total, total-promoted}
@@ -50,40 +50,40 @@ module _ (cs : List Class) where
       ap (λ n. zygote_top cs n os) (last-next bytes o o.place two) ∙ top-last bytes (turn o.place) os two h.1
 
   -- objects of the last turn, promoted from a place on, where the next object may stand
-  last-promoted : (bytes at least : ℕ) (os : List Object) → 2 ≤ least → AreInTurn least os → (at ≡ bytes) ⊎ (at ≡ next_multiple 4096 bytes) → FillZygote cs bytes (promoted_from cs at os)
+  last-promoted : (bytes at least : ℕ) (os : List Object) → 2 ≤ least → AreInTurn least os → (at ≡ bytes) ⊎ (at ≡ next_multiple page_bytes bytes) → FillZygote cs bytes (promoted_from cs at os)
   last-promoted bytes at least [] le h next = tt
   last-promoted bytes at least (o ∷ os) le h next =
       let two : 2 ≤ turn o.place = omega (arith, le, h.0) in
       by o.place two (λ b a e. last-promoted b a (turn o.place) os two h.1 e)
     where
-      by : (q : Place) → 2 ≤ turn q → ((b a : ℕ) → (a ≡ b) ⊎ (a ≡ next_multiple 4096 b) → FillZygote cs b (promoted_from cs a os))
+      by : (q : Place) → 2 ≤ turn q → ((b a : ℕ) → (a ≡ b) ⊎ (a ≡ next_multiple page_bytes b) → FillZygote cs b (promoted_from cs a os))
           → IsBehindZygote bytes (promoted_place at q) × FillZygote cs (zygote_next cs bytes (record o { place = promoted_place at q }) (promoted_place at q)) (promoted_from cs (next_spot at (size_of_object cs o) q) os)
       by (place.Image spot) two rest = absurd (omega (arith, two))
       by (place.Zygote spot) two rest = absurd (omega (arith, two))
       by place.Young two rest =
-          let e : at + size_of_object cs o ≡ 805306368 + at + size_of_object cs o - 805306368 = omega arith in
+          let e : at + size_of_object cs o ≡ zygote_base + at + size_of_object cs o - zygote_base = omega arith in
           (elim next [ inl same ↦ inl (ap (λ n. zygote_base + n) same) | inr page ↦ inr (ap (λ n. zygote_base + n) page) ], rest (zygote_base + at + size_of_object cs o - zygote_base) (at + size_of_object cs o) (inl e))
       by place.Large two rest = (tt, rest bytes at next)
       by place.Promoted two rest = absurd (omega (arith, two))
 
   -- objects that are promoted behind all of the zygote window
-  zygote-promoted : (bytes at least : ℕ) (os : List Object) → AreInTurn least os → FillZygote cs bytes os → at ≡ next_multiple 4096 (zygote_top cs bytes os) → FillZygote cs bytes (promoted_from cs at os)
+  zygote-promoted : (bytes at least : ℕ) (os : List Object) → AreInTurn least os → FillZygote cs bytes os → at ≡ next_multiple page_bytes (zygote_top cs bytes os) → FillZygote cs bytes (promoted_from cs at os)
   zygote-promoted bytes at least [] turns h e = tt
   zygote-promoted bytes at least (o ∷ os) turns h e = by o.place turns.1 h.0 h.1 e (λ b fill e. zygote-promoted b at (turn o.place) os turns.1 fill e)
     where
-      by : (q : Place) → AreInTurn (turn q) os → IsBehindZygote bytes q → FillZygote cs (zygote_next cs bytes o q) os → at ≡ next_multiple 4096 (zygote_top cs (zygote_next cs bytes o q) os)
-          → ((b : ℕ) → FillZygote cs b os → at ≡ next_multiple 4096 (zygote_top cs b os) → FillZygote cs b (promoted_from cs at os))
+      by : (q : Place) → AreInTurn (turn q) os → IsBehindZygote bytes q → FillZygote cs (zygote_next cs bytes o q) os → at ≡ next_multiple page_bytes (zygote_top cs (zygote_next cs bytes o q) os)
+          → ((b : ℕ) → FillZygote cs b os → at ≡ next_multiple page_bytes (zygote_top cs b os) → FillZygote cs b (promoted_from cs at os))
           → IsBehindZygote bytes (promoted_place at q) × FillZygote cs (zygote_next cs bytes (record o { place = promoted_place at q }) (promoted_place at q)) (promoted_from cs (next_spot at (size_of_object cs o) q) os)
       by (place.Image spot) turns behind fill e rest = (tt, rest bytes fill e)
       by (place.Zygote spot) turns behind fill e rest = (behind, rest (spot + size_of_object cs o - zygote_base) fill e)
       by place.Young turns behind fill e rest =
-          let same : at ≡ next_multiple 4096 bytes = e ∙ ap (next_multiple 4096) (top-last bytes 2 os (omega arith) turns) in
-          let f : at + size_of_object cs o ≡ 805306368 + at + size_of_object cs o - 805306368 = omega arith in (
+          let same : at ≡ next_multiple page_bytes bytes = e ∙ ap (next_multiple page_bytes) (top-last bytes 2 os (omega arith) turns) in
+          let f : at + size_of_object cs o ≡ zygote_base + at + size_of_object cs o - zygote_base = omega arith in (
             inr (ap (λ n. zygote_base + n) same),
             last-promoted (zygote_base + at + size_of_object cs o - zygote_base) (at + size_of_object cs o) 2 os (omega arith) turns (inl f),
           )
       by place.Large turns behind fill e rest =
-          let same : at ≡ next_multiple 4096 bytes = e ∙ ap (next_multiple 4096) (top-last bytes 2 os (omega arith) turns) in
+          let same : at ≡ next_multiple page_bytes bytes = e ∙ ap (next_multiple page_bytes) (top-last bytes 2 os (omega arith) turns) in
           (tt, last-promoted bytes at 2 os (omega arith) turns (inr same))
       by place.Promoted turns behind fill e rest = (tt, rest bytes fill e)
 
@@ -184,7 +184,7 @@ module _ (cs : List Class) where
       by place.Promoted = refl
 
   -- promoted objects are placed, where the window has room
-  pub placed-promoted : (budget at : ℕ) (os : List Object) → at ≡ next_multiple 4096 (zygote_top cs 0 os) → at + total (λ o. young_size cs o o.place) os ≤ 268435456 → IsPlaced cs true budget os
+  pub placed-promoted : (budget at : ℕ) (os : List Object) → at ≡ next_multiple page_bytes (zygote_top cs 0 os) → at + total (λ o. young_size cs o o.place) os ≤ zygote_length → IsPlaced cs true budget os
       → IsPlaced cs true budget (promoted_from cs at os)
   placed-promoted budget at os start fits h = record {
     before_seal = λ e. absurd (true≢false e);

@@ -1,12 +1,13 @@
 -- One more object is placed: in the image before the seal, and in the heap after it.
 use Rattle.std.proofs.Common.{◌≡◌, ℕ, ◌+◌, ◌≤◌, Bool, true, false, true≢false, List, [], ◌∷◌, ◌++◌, refl, sym, ap, subst, ◌∙◌, arith}
 use Rattle.std.specs.List.{AllByRecursion}
+use Rattle.model_numbers.specs.Numbers.{image_base, image_length, region_bytes}
 use Rattle.class_layout.specs.ClassList.{Class}
 use Rattle.heap_graph.specs.declared.names.Place.{Place}
 use Rattle.heap_graph.specs.declared.names.Place.TheVariants as place
 use Rattle.heap_graph.specs.Graph.{Object, image_size, size_of_object}
 use Rattle.heap_graph.specs.Packing.{cost}
-use Rattle.heap_graph.specs.Sizes.{image_base, parts_for}
+use Rattle.heap_graph.specs.Sizes.{parts_for}
 use Rattle.heap_world.specs.Formed.{AreInTurn, FillImage, FillZygote, IsBehindImage, IsBehindZygote, SuitsShape, is_in_image, turn, zygote_next}
 use Rattle.heap_graph.proofs.LaidOut.{all-push}
 use Rattle.heap_world.proofs.Placed.{IsPlaced, young_end, young_next, zygote_top}
@@ -75,7 +76,7 @@ module _ (cs : List Class) where
 
   -- an object of the image
   pub placed-image : (sealed : Bool) (budget : ℕ) (os : List Object) (o : Object) → sealed ≡ false → o.place ≡ place.Image (image_base + total (λ o. image_size cs o o.place) os)
-      → total (λ o. image_size cs o o.place) os + size_of_object cs o ≤ 67108864 → IsPlaced cs sealed budget os → IsPlaced cs sealed budget (os ++ o ∷ [])
+      → total (λ o. image_size cs o o.place) os + size_of_object cs o ≤ image_length → IsPlaced cs sealed budget os → IsPlaced cs sealed budget (os ++ o ∷ [])
   placed-image sealed budget os o unsealed at fits h =
       let fill : ℕ = total (λ o. image_size cs o o.place) os in
       let size : image_size cs o o.place ≡ size_of_object cs o = ap (image_size cs o) at in
@@ -96,7 +97,7 @@ module _ (cs : List Class) where
 
   -- an object of the heap
   pub placed-heap : (budget : ℕ) (os : List Object) (o : Object) → SuitsShape cs o o.place → turn o.place ≡ 2
-      → parts_for 262144 (young_next cs (young_end cs 0 os) o o.place) + (total (λ o. cost cs o o.place) os + cost cs o o.place) ≤ budget → IsPlaced cs true budget os → IsPlaced cs true budget (os ++ o ∷ [])
+      → parts_for region_bytes (young_next cs (young_end cs 0 os) o o.place) + (total (λ o. cost cs o o.place) os + cost cs o o.place) ≤ budget → IsPlaced cs true budget os → IsPlaced cs true budget (os ++ o ∷ [])
   placed-heap budget os o suits last fits h =
       record {
         before_seal = λ e. absurd (true≢false e);

@@ -1,6 +1,7 @@
 -- Objects of the same places and sizes are placed the same.
 use Rattle.std.proofs.Common.{◌≡◌, ℕ, ◌+◌, ◌-◌, Bool, true, false, ◌&&◌, List, [], ◌∷◌, ◌++◌, map, nat_eq, nat_le, refl, sym, ap, subst, ◌∙◌, arith}
 use Rattle.std.specs.List.{AllByRecursion, flat_map}
+use Rattle.model_numbers.specs.Numbers.{zygote_base, region_bytes, page_bytes, least_large}
 use Rattle.class_layout.specs.ClassList.{Class}
 use Rattle.class_layout.specs.Kinds.{next_multiple}
 use Rattle.class_layout.proofs.Layouts.{layout_of-push_old}
@@ -12,7 +13,7 @@ use Rattle.heap_graph.specs.declared.names.Stored.{Stored}
 use Rattle.heap_graph.specs.Collection.{cleared}
 use Rattle.heap_graph.specs.Graph.{Object, image_size, size_of_object}
 use Rattle.heap_graph.specs.Packing.{after, cost}
-use Rattle.heap_graph.specs.Sizes.{is_large, is_primitive_array, parts_for, unrounded, zygote_base}
+use Rattle.heap_graph.specs.Sizes.{is_large, is_primitive_array, parts_for, unrounded}
 use Rattle.heap_world.specs.declared.names.PageName.TheVariants.{Large}
 use Rattle.heap_world.specs.Acts.{stored_in, stored_in_if}
 use Rattle.heap_world.specs.Pages.{count_from, large_pages, pages_if_promoted}
@@ -55,8 +56,8 @@ module _ (cs ds : List Class) (o x : Object) (same : IsSame cs ds o x) where
       by (place.Image spot) = refl
       by (place.Zygote spot) = refl
       by place.Young = refl
-      by place.Large = ap (parts_for 262144) same.bytes
-      by place.Promoted = ap (parts_for 262144) same.bytes
+      by place.Large = ap (parts_for region_bytes) same.bytes
+      by place.Promoted = ap (parts_for region_bytes) same.bytes
 
   pub zygote_next-same : (bytes : ℕ) → zygote_next ds bytes x x.place ≡ zygote_next cs bytes o o.place
   zygote_next-same bytes = ap (zygote_next ds bytes x) same.place ∙ by o.place
@@ -82,7 +83,7 @@ module _ (cs ds : List Class) (o x : Object) (same : IsSame cs ds o x) where
   pages-same = ap (pages_if_promoted ds x) same.place ∙ by o.place
     where
       large : large_pages ds x ≡ large_pages cs o
-      large = ap (λ n. map (Large n) (count_from 0 (parts_for 4096 (unrounded ds x.shape)))) same.number ∙ ap (λ u. map (Large o.number) (count_from 0 (parts_for 4096 u))) same.bytes
+      large = ap (λ n. map (Large n) (count_from 0 (parts_for page_bytes (unrounded ds x.shape)))) same.number ∙ ap (λ u. map (Large o.number) (count_from 0 (parts_for page_bytes u))) same.bytes
 
       by : (at : Place) → pages_if_promoted ds x at ≡ pages_if_promoted cs o at
       by (place.Image spot) = refl
@@ -210,4 +211,4 @@ pub grown-same : (cs ds : List Class) (os : List Object) → AreObjects cs os �
 grown-same cs ds [] h = tt
 grown-same cs ds (o ∷ os) h =
     let e = bytes-grown cs ds o.shape h.0 in
-    (record { number = refl; place = refl; bytes = e; large = ap (λ n. is_primitive_array o.shape && nat_le 12288 n) e }, grown-same cs ds os h.2)
+    (record { number = refl; place = refl; bytes = e; large = ap (λ n. is_primitive_array o.shape && nat_le least_large n) e }, grown-same cs ds os h.2)

@@ -1,6 +1,7 @@
 -- Each command keeps a part sound.
 use Rattle.std.proofs.Common.{◌≡◌, ℕ, ◌+◌, ◌≤◌, Bool, true, false, List, [], ◌∷◌, Option, None, Some, Result, Ok, Err, IfOk, nat_le, refl, sym, subst, ◌∙◌}
 use Rattle.std.specs.List.{AllByRecursion}
+use Rattle.model_numbers.specs.Numbers.{image_base, image_length, most_regions, number_limit}
 use Rattle.class_layout.specs.declared.classes.DefineError.{DefineError}
 use Rattle.class_layout.specs.declared.kind.FieldAt.{FieldAt}
 use Rattle.class_layout.specs.declared.kind.Value.{Value}
@@ -18,7 +19,7 @@ use Rattle.heap_graph.specs.Allocation as allocated
 use Rattle.heap_graph.specs.Collection.{collect}
 use Rattle.heap_graph.specs.Fork.{child_of, has_zygote_room, next_spot, promoted, promoted_from, promoted_place, promotion_start}
 use Rattle.heap_graph.specs.Graph.{Graph, Object, image_fill, is_immune, object_at, size_of_object}
-use Rattle.heap_graph.specs.Sizes.{image_base, image_bytes, is_large, is_too_large, size_in}
+use Rattle.heap_graph.specs.Sizes.{is_large, is_too_large, size_in}
 use Rattle.heap_graph.specs.Values.{held_of, slot_of, value_at}
 use Rattle.heap_world.specs.declared.command.Verb.{Verb}
 use Rattle.heap_world.specs.declared.command.Verb.TheVariants as verb
@@ -141,10 +142,10 @@ module _ (p : Part) (formed : IsFormed p.graph) (marked : IsMarked p) where
 
       made_by : (b : Bool) → g.sealed ≡ b → MarksMade p root (make_by b g shape slots)
       made_by true e = if_sealed e (has_room g shape)
-      made_by false e = in_image e (nat_le (image_fill g + size_in g.classes shape) image_bytes)
+      made_by false e = in_image e (nat_le (image_fill g + size_in g.classes shape) image_length)
 
       slots_marks : Marks (make_slots p root shape slots)
-      slots_marks = by (nat_le 268435456 g.next)
+      slots_marks = by (nat_le number_limit g.next)
         where
           by : (b : Bool) → Marks (make_numbered b p root shape slots)
           by true = marked
@@ -285,7 +286,7 @@ pub act_sound : (p : Part) (v : Verb) → HasFewFields v → IsSound p → IsSou
 act_sound p v few sound = sound_from (act p v).part (act_keeps p v few sound.formed) (act_marks p v few sound.formed (marked_of p sound))
 
 -- the first part
-pub first_sound : (budget number : ℕ) → 1 ≤ budget → budget ≤ 512 → number ≤ 268435456 → IsSound (first_part budget number)
+pub first_sound : (budget number : ℕ) → 1 ≤ budget → budget ≤ most_regions → number ≤ number_limit → IsSound (first_part budget number)
 first_sound budget number some few low =
     sound_from (first_part budget number) (first_formed budget number few low) (marked-none (first_part budget number) refl (distinct-none same_card) (distinct-none same_card) tt)
 

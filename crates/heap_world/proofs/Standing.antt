@@ -4,6 +4,7 @@ use Rattle.std.specs.List.{AllByRecursion, find, flat_map}
 use Rattle.std.proofs.lemmas.Bool.{cases_eq, or_left, or_right}
 use Rattle.std.proofs.lemmas.List.Folds.{list_any-append}
 use Rattle.std.proofs.lemmas.Option.{same_Some, none-some}
+use Rattle.model_numbers.specs.Numbers.{image_base, zygote_base, page_bytes}
 use Rattle.class_layout.specs.declared.kind.Kind.{Kind}
 use Rattle.class_layout.specs.declared.kind.Kind.TheVariants.{Ref}
 use Rattle.class_layout.specs.declared.kind.FieldAt.{FieldAt}
@@ -32,8 +33,8 @@ pub standing-is : (g h : Graph) → FillZygote g.classes 0 g.objects → FillZyg
 standing-is g h before after image zygote promoted =
     let fill : image_fill h ≡ image_fill g = fill-is h ∙ image ∙ sym (fill-is g) in
     let top : zygote_fill h ≡ zygote_fill g = sym (top-is h.classes h.objects after) ∙ zygote ∙ top-is g.classes g.objects before in
-    ap (λ n. map Image (count_from 0 (parts_for 4096 n)) ++ zygote_pages h ++ promoted_pages h) fill
-    ∙ ap (λ n. image_pages g ++ map Zygote (count_from 0 (parts_for 4096 n)) ++ promoted_pages h) top
+    ap (λ n. map Image (count_from 0 (parts_for page_bytes n)) ++ zygote_pages h ++ promoted_pages h) fill
+    ∙ ap (λ n. image_pages g ++ map Zygote (count_from 0 (parts_for page_bytes n)) ++ promoted_pages h) top
     ∙ ap (λ ps. image_pages g ++ zygote_pages g ++ ps) promoted
 
 -- a slot lies behind the header and before the object's end
@@ -82,7 +83,7 @@ object-all P (x ∷ os) n o h e = by (nat_eq x.number n) e (object-all P os n o 
 module _ (cs : List Class) (limit : ℕ) where
   -- an object of the image, or of the zygote window, lies within so many bytes of it
   abbrev pub LiesInImage : Object → Place → Type 0
-  LiesInImage o (place.Image spot) = (536870912 ≤ spot) × (spot + size_of_object cs o ≤ 536870912 + limit)
+  LiesInImage o (place.Image spot) = (image_base ≤ spot) × (spot + size_of_object cs o ≤ image_base + limit)
   LiesInImage o (place.Zygote spot) = Unit {0}
   LiesInImage o place.Young = Unit {0}
   LiesInImage o place.Large = Unit {0}
@@ -90,7 +91,7 @@ module _ (cs : List Class) (limit : ℕ) where
 
   abbrev pub LiesInZygote : Object → Place → Type 0
   LiesInZygote o (place.Image spot) = Unit {0}
-  LiesInZygote o (place.Zygote spot) = (805306368 ≤ spot) × (spot + size_of_object cs o ≤ 805306368 + limit)
+  LiesInZygote o (place.Zygote spot) = (zygote_base ≤ spot) × (spot + size_of_object cs o ≤ zygote_base + limit)
   LiesInZygote o place.Young = Unit {0}
   LiesInZygote o place.Large = Unit {0}
   LiesInZygote o place.Promoted = Unit {0}
@@ -148,16 +149,16 @@ slot-stands g o at formed found has immune =
         → ((page : PageName) → is_touched (pages_if_promoted g.classes o q) page ≡ true → is_touched (promoted_pages g) page ≡ true)
         → IfSome (page_in o q at.offset) (λ page. is_touched (standing_pages g) page ≡ true)
     by (place.Image spot) immune image zygote promoted =
-        let k : ℕ = (spot + at.offset - 536870912) / 4096 in
+        let k : ℕ = (spot + at.offset - image_base) / page_bytes in
         in-left (image_pages g ++ zygote_pages g) (promoted_pages g) (Image k)
-        (in-left (image_pages g) (zygote_pages g) (Image k) (in-count Image 0 (parts_for 4096 (image_fill g)) k (omega arith) (omega (arith, image.0, image.1, within))))
+        (in-left (image_pages g) (zygote_pages g) (Image k) (in-count Image 0 (parts_for page_bytes (image_fill g)) k (omega arith) (omega (arith, image.0, image.1, within))))
     by (place.Zygote spot) immune image zygote promoted =
-        let k : ℕ = (spot + at.offset - 805306368) / 4096 in
+        let k : ℕ = (spot + at.offset - zygote_base) / page_bytes in
         in-left (image_pages g ++ zygote_pages g) (promoted_pages g) (Zygote k)
-        (in-right (image_pages g) (zygote_pages g) (Zygote k) (in-count Zygote 0 (parts_for 4096 (zygote_fill g)) k (omega arith) (omega (arith, zygote.0, zygote.1, within))))
+        (in-right (image_pages g) (zygote_pages g) (Zygote k) (in-count Zygote 0 (parts_for page_bytes (zygote_fill g)) k (omega arith) (omega (arith, zygote.0, zygote.1, within))))
     by place.Young immune image zygote promoted = tt
     by place.Large immune image zygote promoted = absurd (true≢false (sym immune))
     by place.Promoted immune image zygote promoted =
-        let k : ℕ = at.offset / 4096 in
+        let k : ℕ = at.offset / page_bytes in
         in-right (image_pages g ++ zygote_pages g) (promoted_pages g) (Large o.number k)
-        (promoted (Large o.number k) (in-count (Large o.number) 0 (parts_for 4096 (unrounded g.classes o.shape)) k (omega arith) (omega (arith, within))))
+        (promoted (Large o.number k) (in-count (Large o.number) 0 (parts_for page_bytes (unrounded g.classes o.shape)) k (omega arith) (omega (arith, within))))

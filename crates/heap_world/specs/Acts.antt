@@ -1,5 +1,6 @@
 -- Each command of a process: its refusals in their order, and what it does.
 use Rattle.std.specs.Prelude.{ℕ, ◌+◌, ◌-◌, ◌*◌, ◌/◌, Bool, true, false, List, [], ◌∷◌, ◌++◌, Option, None, Some, Result, Ok, Err, map, length, nat_le, nat_eq, slice_get, codes, count_by, sum}
+use Rattle.model_numbers.specs.Numbers.{page_bytes, number_limit}
 use Rattle.class_layout.specs.declared.kind.Kind.{Kind}
 use Rattle.class_layout.specs.declared.kind.Kind.TheVariants as kind
 use Rattle.class_layout.specs.declared.kind.FieldAt.{FieldAt}
@@ -27,7 +28,7 @@ use Rattle.heap_graph.specs.Allocation as allocated
 use Rattle.heap_graph.specs.Collection.{collect, loose_count, freed_count}
 use Rattle.heap_graph.specs.Fork.{promotion_start, promotion_bytes, has_zygote_room, promoted}
 use Rattle.heap_graph.specs.Packing.{free, young_objects}
-use Rattle.heap_graph.specs.Sizes.{page_bytes, parts_for, is_large, is_too_large, size_in, unrounded}
+use Rattle.heap_graph.specs.Sizes.{parts_for, is_large, is_too_large, size_in, unrounded}
 use Rattle.heap_graph.specs.Values.{slot_of, held_of, value_at, with_stored}
 use Rattle.heap_world.specs.declared.names.PageName.{PageName}
 use Rattle.heap_world.specs.declared.names.PageName.TheVariants.{Image, Zygote, Large}
@@ -101,13 +102,13 @@ after_make p root shape (allocated.HeapFull g free needed) =
       allowed = line_reads + collection_reads true p;
     }
 
--- the numbers end at 268,435,455
+-- numbers are below 268,435,456
 abbrev pub make_numbered : Bool → Part → List ℕ → Shape → List Stored → Effect
 make_numbered true p root shape slots = refuses p refusal.NumberLimit
 make_numbered false p root shape slots = after_make p root shape (make p.graph shape slots)
 
 abbrev pub make_slots : Part → List ℕ → Shape → List Stored → Effect
-make_slots p root shape slots = make_numbered (nat_le 268435456 p.graph.next) p root shape slots
+make_slots p root shape slots = make_numbered (nat_le number_limit p.graph.next) p root shape slots
 
 abbrev pub make_sized : Bool → Part → List ℕ → Shape → Effect
 make_sized true p root shape = refuses p refusal.TooLarge
@@ -304,6 +305,10 @@ gc_if true p = gc_to p (collect p.graph)
 
 -- fork, after the test of the name
 
+-- a fork allows 4,096 reads for each noted card
+abbrev pub fork_reads : Part → ℕ
+fork_reads p = 4096 * noted_count p
+
 -- for each object that it promotes, a fork allows four reads per 4-byte word and 16
 abbrev pub promotion_reads : Graph → ℕ
 promotion_reads g = sum (map (λ o. 4 * (size_of_object g.classes o / 4) + 16) (young_objects g))
@@ -319,7 +324,7 @@ fork_collected true p g =
       reply = reply.Done;
       made = fork_pages g;
       first = [];
-      allowed = line_reads + 4096 * noted_count p + promotion_reads g;
+      allowed = line_reads + fork_reads p + promotion_reads g;
     }
 fork_collected false p g =
     record {
@@ -327,7 +332,7 @@ fork_collected false p g =
       reply = reply.Refused (refusal.ZygoteFull (promotion_start g) (promotion_bytes g));
       made = [];
       first = [];
-      allowed = line_reads + 4096 * noted_count p;
+      allowed = line_reads + fork_reads p;
     }
 
 -- the process promotes the objects of the collected graph, where they fit

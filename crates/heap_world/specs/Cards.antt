@@ -1,6 +1,7 @@
 -- Cards of the image and the zygote window.
 use Rattle.std.specs.Prelude.{ℕ, ◌+◌, ◌-◌, ◌/◌, Bool, true, false, not, List, [], ◌∷◌, ◌++◌, Option, None, Some, nat_eq}
 use Rattle.std.specs.List.{list_any, flat_map}
+use Rattle.model_numbers.specs.Numbers.{image_base, zygote_base, card_bytes}
 use Rattle.heap_world.specs.declared.names.Card.{Card}
 use Rattle.heap_world.specs.declared.names.Card.TheVariants.{Image, Zygote}
 use Rattle.heap_graph.specs.declared.names.Stored.{Stored}
@@ -9,7 +10,6 @@ use Rattle.heap_graph.specs.declared.names.Place.TheVariants as place
 use Rattle.heap_graph.specs.declared.names.Slot.{Slot}
 use Rattle.heap_graph.specs.declared.names.Slot.TheVariants as slot
 use Rattle.heap_graph.specs.Graph.{Object, Graph, is_immune, object_at}
-use Rattle.heap_graph.specs.Sizes.{card_bytes, image_base, zygote_base}
 
 abbrev pub same_card : Card → Card → Bool
 same_card (Image j) (Image k) = nat_eq j k

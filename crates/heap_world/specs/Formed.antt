@@ -1,6 +1,7 @@
 -- What holds of the graph of each process, after every line.
 use Rattle.std.specs.Prelude.{◌≡◌, ℕ, ◌+◌, ◌-◌, ◌*◌, ◌<◌, ◌≤◌, ◌⊎◌, Bool, true, false, ◌||◌, ◌&&◌, List, [], ◌∷◌, ◌++◌, Option, None, Some, length, nat_eq, slice_get, unwrap_or}
 use Rattle.std.specs.List.{list_any, AllByRecursion, IsDistinct}
+use Rattle.model_numbers.specs.Numbers.{image_base, image_length, zygote_base, zygote_length, page_bytes, most_regions, field_limit, number_limit}
 use Rattle.class_layout.specs.declared.kind.Kind.{Kind}
 use Rattle.class_layout.specs.declared.kind.FieldAt.{FieldAt}
 use Rattle.class_layout.specs.ClassList.{Class, IsClassList, layout_of}
@@ -17,7 +18,7 @@ use Rattle.heap_graph.specs.declared.names.Stored.{Stored}
 use Rattle.heap_graph.specs.Graph.{Graph, Object, image_fill, image_size, size_of_object, zygote_fill}
 use Rattle.heap_graph.specs.Packing.{costs, used}
 use Rattle.heap_graph.specs.Paths.{IsClosed}
-use Rattle.heap_graph.specs.Sizes.{image_base, image_bytes, is_large, is_too_large, page_bytes, zygote_base, zygote_bytes}
+use Rattle.heap_graph.specs.Sizes.{is_large, is_too_large}
 use Rattle.heap_world.specs.declared.command.Verb.{Verb}
 use Rattle.heap_world.specs.declared.command.Verb.TheVariants as verb
 
@@ -146,12 +147,12 @@ FillZygote cs bytes (o ∷ os) = IsBehindZygote bytes o.place × FillZygote cs (
 pub record IsFormed (g : Graph) : Type 0 where
   pub classes : IsClassList g.classes
   pub numbers : AreRising 0 g.next g.objects
-  pub next : g.next ≤ 268435456
+  pub next : g.next ≤ number_limit
   pub objects : AreObjects g.classes g.objects
   -- what roots and slots hold is there
   pub closed : IsClosed g
   -- a process may use at most 512 regions
-  pub budget : g.budget ≤ 512
+  pub budget : g.budget ≤ most_regions
   -- each root name stands once
   pub root_names : IsDistinct (λ r s. same_name r.name s.name) g.roots
   -- each stored value fits its slot
@@ -166,14 +167,14 @@ pub record IsFormed (g : Graph) : Type 0 where
   pub turns : AreInTurn 0 g.objects
   -- the image's objects fill it, one directly behind the other
   pub image : FillImage g.classes 0 g.objects
-  pub image_fits : image_fill g ≤ image_bytes
+  pub image_fits : image_fill g ≤ image_length
   -- the zygote window's objects rise without overlap
   pub zygote : FillZygote g.classes 0 g.objects
-  pub zygote_fits : zygote_fill g ≤ zygote_bytes
+  pub zygote_fits : zygote_fill g ≤ zygote_length
   -- the regions used, and what large objects cost, lie within the budget
   pub regions : used g + costs g ≤ g.budget
 
 -- a class line declares at most 4,096 fields
 abbrev pub HasFewFields : Verb → Type 0
-HasFewFields (verb.Class name parent fields) = length fields ≤ 4096
+HasFewFields (verb.Class name parent fields) = length fields ≤ field_limit
 HasFewFields v = Unit {0}

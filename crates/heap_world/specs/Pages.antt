@@ -1,6 +1,7 @@
 -- Pages that processes share, by name, and the pages of a process.
 use Rattle.std.specs.Prelude.{ℕ, zero, suc, ◌+◌, ◌-◌, ◌/◌, Bool, true, false, ◌&&◌, List, [], ◌∷◌, ◌++◌, Option, None, Some, map, length, nat_eq, sum}
 use Rattle.std.specs.List.{list_any, flat_map}
+use Rattle.model_numbers.specs.Numbers.{image_base, zygote_base, page_bytes}
 use Rattle.class_layout.specs.ClassList.{Class}
 use Rattle.heap_world.specs.declared.names.PageName.{PageName}
 use Rattle.heap_world.specs.declared.names.PageName.TheVariants.{Image, Zygote, Large}
@@ -8,7 +9,7 @@ use Rattle.heap_graph.specs.declared.names.Place.{Place}
 use Rattle.heap_graph.specs.declared.names.Place.TheVariants as place
 use Rattle.heap_graph.specs.Graph.{Graph, Object, image_fill, zygote_fill}
 use Rattle.heap_graph.specs.Packing.{places_from, young_sizes}
-use Rattle.heap_graph.specs.Sizes.{page_bytes, image_base, zygote_base, parts_for, unrounded}
+use Rattle.heap_graph.specs.Sizes.{parts_for, unrounded}
 
 -- two names are of one page
 abbrev pub same_page : PageName → PageName → Bool

@@ -1,5 +1,6 @@
 //! What every command keeps of a process's graph.
 ghost use Rattle.std.specs.Prelude.{◌≡◌, ◌+◌, ◌≤◌, ℕ, List};
+ghost use Rattle.model_numbers.specs.Numbers.{most_regions, number_limit};
 ghost use Rattle.class_layout.specs.ClassList.{Class, IsClassList};
 ghost use Rattle.class_layout.specs.Kinds.{kind_bytes};
 ghost use Rattle.class_layout.specs.declared.kind.FieldAt.{FieldAt};
@@ -16,7 +17,7 @@ ghost use Rattle.heap_world.specs.declared.command.Verb.{Verb};
 
 /// The graph of each process is formed: it is at first, every command keeps it, and a child's is its parent's.
 pub fn graphs_are_formed()
-    ensures first { (budget number : ℕ) → budget ≤ 512 → number ≤ 268435456 → IsFormed (first_graph budget number) }
+    ensures first { (budget number : ℕ) → budget ≤ most_regions → number ≤ number_limit → IsFormed (first_graph budget number) }
     ensures act { (p : Part) (v : Verb) → HasFewFields v → IsFormed p.graph → IsFormed (act p v).part.graph }
     ensures child { (g : Graph) → IsFormed g → IsFormed (child_of g) }
 {}

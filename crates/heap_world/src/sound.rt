@@ -1,5 +1,6 @@
 //! What every command keeps of a process, and the bounds that follow.
-ghost use Rattle.std.specs.Prelude.{◌+◌, ◌<◌, ◌≤◌, ℕ, All, length, sum};
+ghost use Rattle.std.specs.Prelude.{◌+◌, ◌*◌, ◌<◌, ◌≤◌, ℕ, All, length, sum};
+ghost use Rattle.model_numbers.specs.Numbers.{image_length, zygote_length, region_bytes, most_array_bytes, most_regions, number_limit};
 ghost use Rattle.heap_graph.specs.Fork.{child_of};
 ghost use Rattle.heap_graph.specs.Graph.{Graph, image_fill, zygote_fill};
 ghost use Rattle.heap_graph.specs.Packing.{costs, used, young_sizes};
@@ -13,7 +14,7 @@ ghost use Rattle.heap_world.specs.declared.command.Verb.{Verb};
 
 /// Each process is sound: it is at first, every command keeps it, and a child is as its parent.
 pub fn parts_are_sound()
-    ensures first { (budget number : ℕ) → 1 ≤ budget → budget ≤ 512 → number ≤ 268435456 → IsSound (first_part budget number) }
+    ensures first { (budget number : ℕ) → 1 ≤ budget → budget ≤ most_regions → number ≤ number_limit → IsSound (first_part budget number) }
     ensures act { (p : Part) (v : Verb) → HasFewFields v → IsSound p → IsSound (act p v).part }
     ensures child { (p : Part) → IsSound p → IsSound (record p { graph = child_of p.graph }) }
 {}
@@ -21,12 +22,12 @@ pub fn parts_are_sound()
 /// Sizes and counts have bounds: the bytes of the image, of the zygote window and of young objects, the regions, the
 /// number of objects and the bytes of each, the pages of promoted objects and the touched pages.
 pub fn sizes_are_bounded()
-    ensures image { (g : Graph) → IsFormed g → image_fill g ≤ 67108864 }
-    ensures zygote { (g : Graph) → IsFormed g → zygote_fill g ≤ 268435456 }
-    ensures young { (g : Graph) → IsFormed g → sum (young_sizes g) ≤ 134217728 }
-    ensures regions { (g : Graph) → IsFormed g → used g + costs g ≤ 512 }
-    ensures objects { (g : Graph) → IsFormed g → length g.objects < 268435456 }
-    ensures bytes { (g : Graph) → IsFormed g → All (λ o. unrounded g.classes o.shape ≤ 1048576) g.objects }
+    ensures image { (g : Graph) → IsFormed g → image_fill g ≤ image_length }
+    ensures zygote { (g : Graph) → IsFormed g → zygote_fill g ≤ zygote_length }
+    ensures young { (g : Graph) → IsFormed g → sum (young_sizes g) ≤ most_regions * region_bytes }
+    ensures regions { (g : Graph) → IsFormed g → used g + costs g ≤ most_regions }
+    ensures objects { (g : Graph) → IsFormed g → length g.objects < number_limit }
+    ensures bytes { (g : Graph) → IsFormed g → All (λ o. unrounded g.classes o.shape ≤ most_array_bytes) g.objects }
     ensures promoted { (g : Graph) → IsFormed g → length (promoted_pages g) ≤ 32768 }
     ensures touched { (p : Part) → IsSound p → length p.touched ≤ 131072 }
 {}

@@ -1,6 +1,7 @@
 -- What a dump sees of a heap: a graph whose references are addresses.
 use Rattle.std.specs.Prelude.{◌≡◌, ℕ, ◌+◌, ◌≤◌, Bool, true, false, ◌&&◌, ◌||◌, List, Option, None, Some, nat_le, nat_lt, ℤ, pos}
 use Rattle.std.specs.List.{list_any}
+use Rattle.model_numbers.specs.Numbers.{image_base, image_length, zygote_base, zygote_length}
 use Rattle.class_layout.specs.declared.kind.Kind.{Kind}
 use Rattle.class_layout.specs.declared.kind.FieldAt.{FieldAt}
 use Rattle.class_layout.specs.Placing.{IsIn}
@@ -11,7 +12,7 @@ use Rattle.heap_graph.specs.declared.names.Place.TheVariants as place
 use Rattle.heap_graph.specs.declared.names.Slot.{Slot}
 use Rattle.heap_graph.specs.declared.names.Slot.TheVariants as slot
 use Rattle.heap_graph.specs.Graph.{Graph, Object}
-use Rattle.heap_graph.specs.Sizes.{image_base, image_bytes, is_too_large, zygote_base, zygote_bytes}
+use Rattle.heap_graph.specs.Sizes.{is_too_large}
 use Rattle.heap_graph.specs.Table.{Fits, in_spot_window}
 use Rattle.heap_graph.specs.Values.{value_at}
 use Rattle.object_view.specs.declared.names.Heap.{Heap}
@@ -61,7 +62,7 @@ pub record IsShown (g : Graph) (table : ℕ → ℕ) : Type 0 where
 -- an address lies in the image or in the zygote window
 abbrev pub is_in_window : ℕ → Bool
 is_in_window at =
-    nat_le image_base at && nat_lt at (image_base + image_bytes) || nat_le zygote_base at && nat_lt at (zygote_base + zygote_bytes)
+    nat_le image_base at && nat_lt at (image_base + image_length) || nat_le zygote_base at && nat_lt at (zygote_base + zygote_length)
 
 -- so many, where the test holds
 abbrev pub count_if : Bool → ℕ → ℕ

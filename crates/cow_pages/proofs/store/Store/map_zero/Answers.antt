@@ -1,4 +1,5 @@
 use Rattle.std.proofs.Common.{◌≡◌, ◌∙◌, ◌+◌, ◌∷◌, [], ap, length, sym, subst, Some, replicate}
+use Rattle.model_numbers.specs.Numbers.{page_bytes}
 use Rattle.cow_pages.specs.declared.pool.Pool.{Pool}
 use Rattle.cow_pages.specs.declared.table.Entry.{Entry}
 use Rattle.cow_pages.specs.Place.{place_of}
@@ -25,7 +26,7 @@ returns-clause-kept c =
     let m = mapped s1 new c.args.t.0 c.args.page.0 c.in-Some.place taken.result c.in_ok-reserve.ensures.kept at
     (rw tables none) (subst IsPool (sym pool) taken.ensures.pool) taken.ensures.free
     (subst (λ (p : Pool). Shares s1.pool.frames.items p.frames.items (taken.result ∷ []) []) (sym pool) taken.ensures.shares)
-    (subst (λ (p : Pool). SetsBytes s1.pool.frames.items p.frames.items taken.result (replicate 4096 0)) (sym pool) taken.ensures.bytes)
+    (subst (λ (p : Pool). SetsBytes s1.pool.frames.items p.frames.items taken.result (replicate page_bytes 0)) (sym pool) taken.ensures.bytes)
     (subst (λ (it : Entry). SetsEntry s1.tables.items new.tables.items c.args.t.0 c.in-Some.place (Some it)) c.new.ensures c.set_entry.ensures.entry)
     c.set_entry.ensures.reads in
     m.kept
@@ -44,7 +45,7 @@ returns-clause-zeros c =
     let m = mapped s1 new c.args.t.0 c.args.page.0 c.in-Some.place taken.result c.in_ok-reserve.ensures.kept at
     (rw tables none) (subst IsPool (sym pool) taken.ensures.pool) taken.ensures.free
     (subst (λ (p : Pool). Shares s1.pool.frames.items p.frames.items (taken.result ∷ []) []) (sym pool) taken.ensures.shares)
-    (subst (λ (p : Pool). SetsBytes s1.pool.frames.items p.frames.items taken.result (replicate 4096 0)) (sym pool) taken.ensures.bytes)
+    (subst (λ (p : Pool). SetsBytes s1.pool.frames.items p.frames.items taken.result (replicate page_bytes 0)) (sym pool) taken.ensures.bytes)
     (subst (λ (it : Entry). SetsEntry s1.tables.items new.tables.items c.args.t.0 c.in-Some.place (Some it)) c.new.ensures c.set_entry.ensures.entry)
     c.set_entry.ensures.reads in
     MapsZeros-room s s1 new _ _ _ room m.zeros
@@ -63,7 +64,7 @@ returns-clause-rest c =
     let m = mapped s1 new c.args.t.0 c.args.page.0 c.in-Some.place taken.result c.in_ok-reserve.ensures.kept at
     (rw tables none) (subst IsPool (sym pool) taken.ensures.pool) taken.ensures.free
     (subst (λ (p : Pool). Shares s1.pool.frames.items p.frames.items (taken.result ∷ []) []) (sym pool) taken.ensures.shares)
-    (subst (λ (p : Pool). SetsBytes s1.pool.frames.items p.frames.items taken.result (replicate 4096 0)) (sym pool) taken.ensures.bytes)
+    (subst (λ (p : Pool). SetsBytes s1.pool.frames.items p.frames.items taken.result (replicate page_bytes 0)) (sym pool) taken.ensures.bytes)
     (subst (λ (it : Entry). SetsEntry s1.tables.items new.tables.items c.args.t.0 c.in-Some.place (Some it)) c.new.ensures c.set_entry.ensures.entry)
     c.set_entry.ensures.reads in
     ChangesPage-room s s1 new _ _ _ room m.rest
@@ -82,7 +83,7 @@ returns-clause-one c =
     let m = mapped s1 new c.args.t.0 c.args.page.0 c.in-Some.place taken.result c.in_ok-reserve.ensures.kept at
     (rw tables none) (subst IsPool (sym pool) taken.ensures.pool) taken.ensures.free
     (subst (λ (p : Pool). Shares s1.pool.frames.items p.frames.items (taken.result ∷ []) []) (sym pool) taken.ensures.shares)
-    (subst (λ (p : Pool). SetsBytes s1.pool.frames.items p.frames.items taken.result (replicate 4096 0)) (sym pool) taken.ensures.bytes)
+    (subst (λ (p : Pool). SetsBytes s1.pool.frames.items p.frames.items taken.result (replicate page_bytes 0)) (sym pool) taken.ensures.bytes)
     (subst (λ (it : Entry). SetsEntry s1.tables.items new.tables.items c.args.t.0 c.in-Some.place (Some it)) c.new.ensures c.set_entry.ensures.entry)
     c.set_entry.ensures.reads in
     TakesOne-room s s1 new c.requires.kept m.kept room (ap (λ (p : Pool). length p.frames.items) pool ∙ taken.ensures.shares.len) (ap (λ (p : Pool). p.spare + 1) pool ∙ taken.ensures.spare)
