@@ -3,6 +3,7 @@ use Rattle.std.proofs.Common.{◌≡◌, ◌≢◌, ◌⊎◌, ◌∙◌, ℕ, �
 use Rattle.std.specs.Prelude.{option_map, is_some}
 use Rattle.std.proofs.lemmas.Bool.{cases_eq, cases_lt}
 use Rattle.std.proofs.lemmas.Option.{none-some}
+use Rattle.model_numbers.specs.Numbers.{page_bytes}
 use Rattle.cow_pages.specs.Memory.{Memory, Page, page_at, frame_at, is_live, used_frames, HasOneSharer, IsSound}
 use Rattle.cow_pages.specs.Address.{page_of, offset_of}
 use Rattle.cow_pages.specs.Change.{ChangesPage, MapsZeros, TakesOne}
@@ -136,7 +137,7 @@ mapping-reserved old mid new t first n same spare maps =
 pub pages-seen : (old new : Memory) (t first n : ℕ) → MapsPages old new t first n → SeesPages (view_of old t) (view_of new t) first n
 pages-seen old new t first n m = record {
   mapped = λ at from to. ap is_some (m.zeros (page_of at) from to).now;
-  zeros = λ at from to. byte-is new t at _ (m.zeros (page_of at) from to).now ∙ zeros-at 4096 (offset_of at);
+  zeros = λ at from to. byte-is new t at _ (m.zeros (page_of at) from to).now ∙ zeros-at page_bytes (offset_of at);
   others = λ at apart.
       let same = m.others t (page_of at) (inr apart) in
       (byte-page old new t t at same, mapped-page old new t t at same);

@@ -4,7 +4,8 @@ use Rattle.std.specs.List.{list_any}
 use Rattle.std.proofs.Math.Bool.{or_comm}
 use Rattle.std.proofs.lemmas.List.Folds.{list_any-append}
 use Rattle.std.proofs.lemmas.List.Sums.{sum_by-append, sum_by-cons}
-use Rattle.image_space.specs.Space.{Space, HasSizes, Places, image_spot, image_start, spots_from}
+use Rattle.model_numbers.specs.Numbers.{image_base}
+use Rattle.image_space.specs.Space.{Space, HasSizes, Places, image_spot, spots_from}
 
 sum-cons : (x : ℕ) (xs : List ℕ) → sum (x ∷ xs) ≡ x + sum xs
 sum-cons x xs = sum_by-cons (λ (n : ℕ). n) x xs
@@ -27,8 +28,8 @@ spots-split at (x ∷ xs) more size =
     ∙ ap (λ k. spots_from (at + x) xs ++ (at + sum (x ∷ xs)) ∷ spots_from k more) next)
 
 pub spots-summed : (before more : List ℕ) (size : ℕ)
-    → spots_from image_start (before ++ size ∷ more) ≡ spots_from image_start before ++ image_spot (sum before) ∷ spots_from (image_spot (sum before + size)) more
-spots-summed before more size = spots-split image_start before more size
+    → spots_from image_base (before ++ size ∷ more) ≡ spots_from image_base before ++ image_spot (sum before) ∷ spots_from (image_spot (sum before + size)) more
+spots-summed before more size = spots-split image_base before more size
 
 pub sizes-more : (old new : Space) (sizes : List ℕ) (at size : ℕ) → HasSizes old sizes → Places old new at size → HasSizes new (sizes ++ size ∷ [])
 sizes-more old new sizes at size has places =
@@ -39,9 +40,9 @@ sizes-more old new sizes at size has places =
           let test : ℕ → Bool = λ k. q == k in
           places.starts q
           ∙ ap (λ b. (q == at) || b) (has.starts q)
-          ∙ or_comm (q == at) (list_any test (spots_from image_start sizes))
-          ∙ ap (λ k. list_any test (spots_from image_start sizes) || (q == k)) spot
-          ∙ ap (λ b. list_any test (spots_from image_start sizes) || b) (or_comm false (q == image_spot (sum sizes)))
-          ∙ sym (list_any-append test (spots_from image_start sizes) (image_spot (sum sizes) ∷ []))
+          ∙ or_comm (q == at) (list_any test (spots_from image_base sizes))
+          ∙ ap (λ k. list_any test (spots_from image_base sizes) || (q == k)) spot
+          ∙ ap (λ b. list_any test (spots_from image_base sizes) || b) (or_comm false (q == image_spot (sum sizes)))
+          ∙ sym (list_any-append test (spots_from image_base sizes) (image_spot (sum sizes) ∷ []))
           ∙ sym (ap (list_any test) (spots-summed sizes [] size));
     }

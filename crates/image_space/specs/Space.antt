@@ -1,20 +1,13 @@
 -- The image space: objects placed one directly behind the other, and the pages that hold their bytes.
 use Rattle.std.specs.Prelude.{◌≡◌, ◌≢◌, ◌⊎◌, ℕ, ◌+◌, ◌-◌, ◌/◌, ◌%◌, ◌<◌, ◌≤◌, ◌==◌, ◌||◌, nat_lt, true, false, IsTrue, List, [], ◌∷◌, sum}
 use Rattle.std.specs.List.{list_any}
+use Rattle.model_numbers.specs.Numbers.{image_base, image_length, page_bytes, most_array_bytes}
 use Rattle.cow_pages.specs.declared.address.Window.TheVariants.{Image}
-use Rattle.cow_pages.specs.Address.{page_size, page_of, first_page, is_in}
+use Rattle.cow_pages.specs.Address.{page_of, first_page, is_in}
 use Rattle.cow_pages.specs.Memory.{Memory, page_at, is_live, is_mapped, used_frames, HasOneSharer}
 use Rattle.cow_pages.specs.Change.{MapsZeros}
 use Rattle.cow_pages.specs.View.{View}
 use Rattle.mark_bitmap.specs.Marks.{Marks, is_marked}
-
--- the address of the image window's first byte
-abbrev pub image_start : ℕ
-image_start = 0x20000000
-
--- how many bytes the image window has
-abbrev pub image_bytes : ℕ
-image_bytes = 67108864
 
 -- how many bytes the objects have together, and the set of the addresses at which they start
 pub record Space : Type 0 where
@@ -23,11 +16,11 @@ pub record Space : Type 0 where
 
 -- the address of the next object, behind so many bytes
 abbrev pub image_spot : ℕ → ℕ
-image_spot fill = image_start + fill
+image_spot fill = image_base + fill
 
 -- how many pages hold so many bytes
 abbrev pub pages_up_to : ℕ → ℕ
-pages_up_to fill = (fill + (page_size - 1)) / page_size
+pages_up_to fill = (fill + (page_bytes - 1)) / page_bytes
 
 -- the page behind those that hold so many bytes of the image
 abbrev pub end_page : ℕ → ℕ
@@ -41,13 +34,13 @@ further_pages fill next = pages_up_to next - pages_up_to fill
 pub record IsSize (size : ℕ) : Type 0 where
   pub multiple : size % 8 ≡ 0
   pub least : 8 ≤ size
-  pub greatest : size ≤ 1048576
+  pub greatest : size ≤ most_array_bytes
 
 -- what holds of each space: it ends at a multiple of 8 in its window, and its starts are kept over its bytes
 pub record IsSpace (s : Space) : Type 0 where
   pub multiple : s.fill % 8 ≡ 0
-  pub bounded : s.fill ≤ image_bytes
-  pub start : s.starts.start ≡ image_start
+  pub bounded : s.fill ≤ image_length
+  pub start : s.starts.start ≡ image_base
   pub span : s.starts.span ≡ s.fill
 
 -- of the image window's pages, exactly those are mapped that hold so many bytes
@@ -96,4 +89,4 @@ spots_from at (size ∷ more) = at ∷ spots_from (at + size) more
 -- the space has objects of exactly these sizes, in the order in which they were placed
 pub record HasSizes (s : Space) (sizes : List ℕ) : Type 0 where
   pub fill : s.fill ≡ sum sizes
-  pub starts : (q : ℕ) → is_marked s.starts q ≡ list_any (λ spot. q == spot) (spots_from image_start sizes)
+  pub starts : (q : ℕ) → is_marked s.starts q ≡ list_any (λ spot. q == spot) (spots_from image_base sizes)

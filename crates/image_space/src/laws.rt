@@ -1,13 +1,14 @@
 //! Laws about spots: the objects of a space stand at the sums of the sizes before them.
 ghost use Rattle.std.specs.Prelude.{◌≡◌, ℕ, ◌+◌, ◌≤◌, List, [], ◌∷◌, ◌++◌, sum, None, IsFalse};
+ghost use Rattle.model_numbers.specs.Numbers.{image_base};
 ghost use Rattle.cow_pages.specs.Memory.{Memory, page_at};
 ghost use Rattle.mark_bitmap.specs.Marks.{is_marked};
-ghost use Rattle.image_space.specs.Space.{Space, HasPagesUpTo, HasSizes, Places, image_spot, image_start, spots_from};
+ghost use Rattle.image_space.specs.Space.{Space, HasPagesUpTo, HasSizes, Places, image_spot, spots_from};
 
 /// The spot of an object is the window's first address plus the sum of the sizes before it.
 pub fn spots_are_sums()
-    ensures { (before more : List ℕ) (size : ℕ) → spots_from image_start (before ++ size ∷ more)
-        ≡ spots_from image_start before ++ image_spot (sum before) ∷ spots_from (image_spot (sum before + size)) more }
+    ensures { (before more : List ℕ) (size : ℕ) → spots_from image_base (before ++ size ∷ more)
+        ≡ spots_from image_base before ++ image_spot (sum before) ∷ spots_from (image_spot (sum before + size)) more }
 {}
 
 /// An object ends at or before the spot of each later one.

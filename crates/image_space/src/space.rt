@@ -1,25 +1,20 @@
 ghost use Rattle.std.specs.Prelude.{◌≡◌, ◌⊎◌, ℕ, ◌+◌, ◌-◌, ◌<◌, ◌≤◌, IsTrue, IsFalse, IfOk, IfErr, Err, None};
+ghost use Rattle.model_numbers.specs.Numbers.{image_length};
 ghost use Rattle.cow_pages.specs.declared.address.Window.TheVariants.{Image};
 ghost use Rattle.cow_pages.specs.Address.{first_page, page_count};
 ghost use Rattle.cow_pages.specs.Memory.{is_live, page_at, IsSound};
 ghost use Rattle.cow_pages.specs.View.{view_of, OthersSeen};
 ghost use Rattle.mark_bitmap.specs.Marks.{is_marked};
 ghost use Rattle.image_space.specs.declared.space.ImageError.{ImageError};
-ghost use Rattle.image_space.specs.Space.{image_bytes, pages_up_to, end_page, further_pages, IsSize, IsSpace, HasPagesUpTo, Places, MapsPages, SeesPages, KeepsPages};
+ghost use Rattle.image_space.specs.Space.{pages_up_to, end_page, further_pages, IsSize, IsSpace, HasPagesUpTo, Places, MapsPages, SeesPages, KeepsPages};
 
 use cow_pages::{Addr, Frames, PageNo, TableNo};
 use mark_bitmap::Bitmap;
+use model_numbers::{IMAGE_BASE, IMAGE_LENGTH, PAGE_BYTES};
 use std::alloc::{AllocError, Global};
 use std::marker::Model;
 
-const PAGE_SIZE: u32 = 4096;
-
-const IMAGE_START: u32 = 0x2000_0000;
-
-const FIRST_PAGE: u32 = IMAGE_START / PAGE_SIZE;
-
-/// How many bytes the image window has.
-const IMAGE_BYTES: u32 = 67_108_864;
+const FIRST_PAGE: u32 = IMAGE_BASE / PAGE_BYTES;
 
 /// Why an object can't be placed.
 #[derive(Clone, Copy, Debug, PartialEq, Eq)]
@@ -64,7 +59,7 @@ impl ImageSpace {
         ensures starts { IfOk result (λ s. (q : ℕ) → IsFalse (is_marked s.starts q)) }
     {
         Ok(ImageSpace {
-            starts: Bitmap::new(alloc, Addr(IMAGE_START), 0)?,
+            starts: Bitmap::new(alloc, Addr(IMAGE_BASE), 0)?,
             fill: 0,
         })
     }
@@ -85,13 +80,13 @@ impl ImageSpace {
         ensures others_seen { IfOk result (λ _. OthersSeen frames.old frames.new t.0) }
         ensures live { IsTrue (is_live frames.new t.0) }
         ensures pages { HasPagesUpTo frames.new t.0 self.new.fill }
-        ensures full { image_bytes < self.old.fill + size → (result ≡ Err (ImageError.Full self.old.fill size)) × (frames.new ≡ frames.old) }
-        ensures err { IfErr result (λ e. (image_bytes < self.old.fill + size) ⊎ (e ≡ ImageError.OutOfMemory)) }
+        ensures full { image_length < self.old.fill + size → (result ≡ Err (ImageError.Full self.old.fill size)) × (frames.new ≡ frames.old) }
+        ensures err { IfErr result (λ e. (image_length < self.old.fill + size) ⊎ (e ≡ ImageError.OutOfMemory)) }
         ensures same { IfErr result (λ _. (self.new ≡ self.old) × KeepsPages frames.old frames.new) }
         ensures space { IsSpace self.new }
         ensures sound { IsSound frames.old → IsSound frames.new }
     {
-        if size > IMAGE_BYTES - self.fill {
+        if size > IMAGE_LENGTH - self.fill {
             return Err(ImageError::Full {
                 fill: self.fill,
                 size,
@@ -103,7 +98,7 @@ impl ImageSpace {
         frames.reserve(count as usize)?;
         self.starts.grow(fill)?;
         map_pages(frames, t, FIRST_PAGE + mapped, count);
-        let at = Addr(IMAGE_START + self.fill);
+        let at = Addr(IMAGE_BASE + self.fill);
         self.starts.set(at);
         self.fill = fill;
         Ok(at)
@@ -140,7 +135,7 @@ impl ImageSpace {
 fn pages_up_to(fill: u32) -> u32
     ensures { result ≡ pages_up_to fill }
 {
-    fill.div_ceil(PAGE_SIZE)
+    fill.div_ceil(PAGE_BYTES)
 }
 
 /// Maps `count` pages of the image window, for which as many frames are free.

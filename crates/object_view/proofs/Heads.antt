@@ -17,6 +17,7 @@ use Rattle.object_view.specs.Objects.{HasWords, IsSpace, Stands}
 use Rattle.object_view.specs.Words.{class_word, head_end, lock_word, HasLength, IsHeader}
 use Rattle.object_view.specs.Values.{no_values}
 use Rattle.std.proofs.lemmas.Bool.{cases_lt}
+use Rattle.model_numbers.specs.Numbers.{number_limit}
 use Rattle.object_view.proofs.Numbers.{one-word, two-words}
 use Rattle.object_view.proofs.Laid.{size-bounds}
 use Rattle.object_view.proofs.Standing.{number-beside, space-kept, Stands-new}
@@ -61,7 +62,7 @@ never-fails m old t at i cs shape aligned within span alone shared =
     not-shared old t (page_of (at + 8 * i)) (alone-next m old t at (8 * i) (size_in cs shape) aligned (omega arith) within span alone) shared
 
 -- class word and lock word, written as one number
-pub first-words : (v : View) (at : ℕ) (shape : Shape) (number : ℕ) → class_word shape < 2 ^ 32 → number < 268435456
+pub first-words : (v : View) (at : ℕ) (shape : Shape) (number : ℕ) → class_word shape < 2 ^ 32 → number < number_limit
     → bytes_at v at 8 ≡ to_le_bytes w64 (class_word shape + lock_word (Number number) * 2 ^ 32)
     → (u32_at v at ≡ class_word shape) × (u32_at v (at + 4) ≡ lock_word (Number number))
 first-words v at shape number small few is = two-words v at (class_word shape) (lock_word (Number number)) small (omega arith) is

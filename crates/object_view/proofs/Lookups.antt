@@ -3,6 +3,7 @@ use Rattle.std.proofs.Common.{Bool, true, ◌&&◌, nat_le, ℤ, pos, subst, Lis
 use Rattle.std.specs.Prelude.{◌==◌, if◌then◌else◌, option_map, IsSomeAnd}
 use Rattle.std.proofs.lemmas.Bool.{le-leb}
 use Rattle.std.proofs.lemmas.Option.{same_Some, none-some}
+use Rattle.model_numbers.specs.Numbers.{class_base, class_bytes}
 use Rattle.class_layout.specs.ClassList.{Class}
 use Rattle.class_layout.specs.declared.kind.FieldAt.{FieldAt}
 use Rattle.object_view.specs.declared.names.Slot.{Slot}
@@ -47,7 +48,7 @@ pub same-kind : (a b : Kind) → array_word a ≡ array_word b → a ≡ b
 same-kind a b is = sym (kind-again a) ∙ ap kind_in is ∙ kind-again b
 
 -- no class word of a class is one of arrays
-pub no-class : (class : ℕ) (kind : Kind) → 0x10000000 + 64 * class ≡ array_word kind → ⊥
+pub no-class : (class : ℕ) (kind : Kind) → class_base + class_bytes * class ≡ array_word kind → ⊥
 no-class class Ref is = omega arith
 no-class class Boolean is = omega arith
 no-class class Byte is = omega arith

@@ -1,5 +1,6 @@
 -- The words at the head of an object: what its shape is, and its number or where it went.
 use Rattle.std.specs.Prelude.{◌≡◌, ⊤, ℕ, ◌+◌, ◌*◌, ◌/◌, ◌%◌, ◌^◌, ◌<◌, ◌≤◌}
+use Rattle.model_numbers.specs.Numbers.{class_base, class_bytes, number_limit}
 use Rattle.class_layout.specs.declared.kind.Kind.{Kind}
 use Rattle.class_layout.specs.declared.kind.Kind.TheVariants.{Ref, Boolean, Byte, Char, Short, Int, Long}
 use Rattle.cow_pages.specs.View.{View, u32_at}
@@ -10,17 +11,17 @@ use Rattle.object_view.specs.declared.names.Header.TheVariants.{Number, Forward}
 
 -- the class word of an array
 abbrev pub array_word : Kind → ℕ
-array_word Ref = 0x10000020
-array_word Boolean = 0x10000024
-array_word Byte = 0x10000028
-array_word Char = 0x1000002c
-array_word Short = 0x10000030
-array_word Int = 0x10000034
-array_word Long = 0x10000038
+array_word Ref = class_base + 0x20
+array_word Boolean = class_base + 0x24
+array_word Byte = class_base + 0x28
+array_word Char = class_base + 0x2c
+array_word Short = class_base + 0x30
+array_word Int = class_base + 0x34
+array_word Long = class_base + 0x38
 
 -- the class word: it is the first of an object's words
 abbrev pub class_word : Shape → ℕ
-class_word (Instance class) = 0x10000000 + 64 * class
+class_word (Instance class) = class_base + class_bytes * class
 class_word (Array kind count) = array_word kind
 
 -- the lock word, which is the second: the allocation number, or an eighth of the address to which the object went
@@ -30,7 +31,7 @@ lock_word (Forward to) = 0xc0000000 + to.0 / 8
 
 -- allocation numbers are 1 to 268,435,455, and objects stand at addresses of 32 bits that are multiples of 8
 abbrev pub IsHeader : Header → Type 0
-IsHeader (Number n) = (1 ≤ n) × (n < 268435456)
+IsHeader (Number n) = (1 ≤ n) × (n < number_limit)
 IsHeader (Forward to) = (to.0 % 8 ≡ 0) × (to.0 < 2 ^ 32)
 
 -- how many bytes an object's words take, with the length of an array

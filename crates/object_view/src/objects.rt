@@ -6,6 +6,7 @@ ghost use Rattle.cow_pages.specs.Address.{page_of};
 ghost use Rattle.cow_pages.specs.Memory.{is_mapped, IsShared, IsSound, Memory};
 ghost use Rattle.cow_pages.specs.View.{byte_at, view_of, OthersSeen, WritesBytes};
 ghost use Rattle.std.specs.Int.{w64, to_le_bytes};
+ghost use Rattle.model_numbers.specs.Numbers.{number_limit};
 ghost use Rattle.heap_graph.specs.Sizes.{size_in};
 ghost use Rattle.object_view.specs.Words.{class_word, head_end, lock_word};
 ghost use Rattle.object_view.specs.Values.{is_value, no_values};
@@ -33,7 +34,7 @@ pub fn write_new(
 ) -> Result<(), AllocError>
     requires aligned { at.0 % 8 ≡ 0 }
     requires known { IsKnown classes.now shape }
-    requires number { (1 ≤ number) × (number < 268435456) }
+    requires number { (1 ≤ number) × (number < number_limit) }
     requires space { IsSpace (view_of frames.old t.0) at.0 (size_in classes.now shape) }
     ensures object { OnOk result (Stands classes.now (view_of frames.new t.0) at.0 shape (Header.Number number) no_values) }
     ensures bytes { ChangesWithin (view_of frames.old t.0) (view_of frames.new t.0) at.0 (at.0 + size_in classes.now shape) }
@@ -135,7 +136,7 @@ fn write_head(
 ) -> Result<u32, AllocError>
     requires aligned { at.0 % 8 ≡ 0 }
     requires known { IsKnown classes.now shape }
-    requires number { (1 ≤ number) × (number < 268435456) }
+    requires number { (1 ≤ number) × (number < number_limit) }
     requires space { IsSpace (view_of frames.old t.0) at.0 (size_in classes.now shape) }
     ensures head { IfOk result (λ n. HasWords (view_of frames.new t.0) at.0 shape (Header.Number number) (8 * n)) }
     ensures all { IfOk result (λ n. (head_end shape ≤ 8 * n) × (8 * n ≤ size_in classes.now shape) × WritesWords frames.old frames.new t.0 at.0 n) }
@@ -157,7 +158,7 @@ fn write_head(
 // Class word and lock word of a new object, as one number.
 fn head_of(classes: &Classes, shape: Shape, number: u32) -> u64
     requires known { IsKnown classes.now shape }
-    requires number { (1 ≤ number) × (number < 268435456) }
+    requires number { (1 ≤ number) × (number < number_limit) }
     ensures value { result ≡ class_word shape + lock_word (Header.Number number) * 2 ^ 32 }
     ensures small { class_word shape < 2 ^ 32 }
 {

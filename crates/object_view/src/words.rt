@@ -7,9 +7,7 @@ use crate::Header;
 use class_layout::{Classes, Kind};
 use cow_pages::Addr;
 use heap_graph::Shape;
-
-/// The class word of class 0. Those of the classes after it stand 64 apart.
-const FIRST_CLASS_WORD: u32 = 0x1000_0000;
+use model_numbers::{CLASS_BASE, CLASS_BYTES};
 
 /// Lock words from here on tell where an object went, those below its number.
 const FORWARD_LOCK: u32 = 0xc000_0000;
@@ -20,13 +18,13 @@ pub fn array_word(kind: Kind) -> u32
     ensures { result ≡ array_word kind }
 {
     match kind {
-        Kind::Ref => 0x1000_0020,
-        Kind::Boolean => 0x1000_0024,
-        Kind::Byte => 0x1000_0028,
-        Kind::Char => 0x1000_002c,
-        Kind::Short => 0x1000_0030,
-        Kind::Int => 0x1000_0034,
-        Kind::Long => 0x1000_0038,
+        Kind::Ref => CLASS_BASE + 0x20,
+        Kind::Boolean => CLASS_BASE + 0x24,
+        Kind::Byte => CLASS_BASE + 0x28,
+        Kind::Char => CLASS_BASE + 0x2c,
+        Kind::Short => CLASS_BASE + 0x30,
+        Kind::Int => CLASS_BASE + 0x34,
+        Kind::Long => CLASS_BASE + 0x38,
     }
 }
 
@@ -34,14 +32,14 @@ pub fn array_word(kind: Kind) -> u32
 pub fn array_kind(word: u32) -> Option<Kind>
     ensures { MatchOption result ((kind : Kind) → word ≢ array_word kind) (λ kind. word ≡ array_word kind) }
 {
-    match word {
-        0x1000_0020 => Some(Kind::Ref),
-        0x1000_0024 => Some(Kind::Boolean),
-        0x1000_0028 => Some(Kind::Byte),
-        0x1000_002c => Some(Kind::Char),
-        0x1000_0030 => Some(Kind::Short),
-        0x1000_0034 => Some(Kind::Int),
-        0x1000_0038 => Some(Kind::Long),
+    match word.checked_sub(CLASS_BASE)? {
+        0x20 => Some(Kind::Ref),
+        0x24 => Some(Kind::Boolean),
+        0x28 => Some(Kind::Byte),
+        0x2c => Some(Kind::Char),
+        0x30 => Some(Kind::Short),
+        0x34 => Some(Kind::Int),
+        0x38 => Some(Kind::Long),
         _ => None,
     }
 }
@@ -51,7 +49,7 @@ pub fn class_of(word: u32) -> u32
     requires { (class : ℕ) × (word ≡ class_word (Shape.Instance class)) }
     ensures { word ≡ class_word (Shape.Instance result) }
 {
-    (word - FIRST_CLASS_WORD) / 64
+    (word - CLASS_BASE) / CLASS_BYTES
 }
 
 pub fn class_word(classes: &Classes, shape: Shape) -> u32
@@ -61,7 +59,7 @@ pub fn class_word(classes: &Classes, shape: Shape) -> u32
     match shape {
         Shape::Instance(class) => {
             prove!(class < classes.count());
-            FIRST_CLASS_WORD + 64 * class
+            CLASS_BASE + CLASS_BYTES * class
         }
         Shape::Array { kind, .. } => array_word(kind),
     }

@@ -1,6 +1,7 @@
 -- The objects of a graph that is formed: their classes stand, they are small, and there are few.
 use Rattle.std.proofs.Common.{◌≡◌, ℕ, zero, suc, ◌+◌, ◌<◌, ◌≤◌, Bool, true, false, not, List, [], ◌∷◌, length, get_or, nat_le, subst, sym, arith}
 use Rattle.std.proofs.lemmas.Bool.Decides.{nat_tests}
+use Rattle.model_numbers.specs.Numbers.{most_array_bytes}
 use Rattle.class_layout.specs.ClassList.{Class}
 use Rattle.class_layout.specs.Kinds.{next_multiple}
 use Rattle.heap_graph.specs.declared.names.Shape.{Shape}
@@ -18,18 +19,18 @@ small_of_shape : (cs : List Class) (shape : Shape) → IsShape cs shape → is_t
 small_of_shape cs (Instance class) h = h.1
 small_of_shape cs (Array kind count) h = h
 
-bytes_le : (bytes : ℕ) (primitive : Bool) → not (nat_le bytes (most_bytes primitive)) ≡ false → bytes ≤ 1048576
+bytes_le : (bytes : ℕ) (primitive : Bool) → not (nat_le bytes (most_bytes primitive)) ≡ false → bytes ≤ most_array_bytes
 bytes_le bytes true h = grind (arith, nat_tests)
 bytes_le bytes false h = grind (arith, nat_tests)
 
 -- what isn't too large has at most 1,048,576 bytes
-pub unrounded-le : (cs : List Class) (shape : Shape) → is_too_large cs shape ≡ false → unrounded cs shape ≤ 1048576
+pub unrounded-le : (cs : List Class) (shape : Shape) → is_too_large cs shape ≡ false → unrounded cs shape ≤ most_array_bytes
 unrounded-le cs shape h = bytes_le (unrounded cs shape) (is_primitive_array shape) h
 
-rounded_le : (bytes : ℕ) → bytes ≤ 1048576 → next_multiple 8 bytes ≤ 1048576
+rounded_le : (bytes : ℕ) → bytes ≤ most_array_bytes → next_multiple 8 bytes ≤ most_array_bytes
 rounded_le bytes h = omega arith
 
-pub size_in_le : (cs : List Class) (shape : Shape) → is_too_large cs shape ≡ false → size_in cs shape ≤ 1048576
+pub size_in_le : (cs : List Class) (shape : Shape) → is_too_large cs shape ≡ false → size_in cs shape ≤ most_array_bytes
 size_in_le cs shape h = rounded_le (unrounded cs shape) (unrounded-le cs shape h)
 
 shape_at : (cs : List Class) (os : List Object) (i : ℕ) (d : Object) → AreObjects cs os → i < length os → IsShape cs (get_or os i d).shape
@@ -44,10 +45,10 @@ shape_of cs os i o small less is = subst (λ p. IsShape cs p.shape) (sym is) (sh
 pub class_stands : (cs : List Class) (os : List Object) (i : ℕ) (o : Object) → AreSmall cs os → i < length os → o ≡ get_or os i o → HasClass cs o.shape
 class_stands cs os i o small less is = HasClass-shape cs o.shape (shape_of cs os i o small less is)
 
-pub unrounded_small : (cs : List Class) (os : List Object) (i : ℕ) (o : Object) → AreSmall cs os → i < length os → o ≡ get_or os i o → unrounded cs o.shape ≤ 1048576
+pub unrounded_small : (cs : List Class) (os : List Object) (i : ℕ) (o : Object) → AreSmall cs os → i < length os → o ≡ get_or os i o → unrounded cs o.shape ≤ most_array_bytes
 unrounded_small cs os i o small less is = unrounded-le cs o.shape (small_of_shape cs o.shape (shape_of cs os i o small less is))
 
-pub size_small : (cs : List Class) (os : List Object) (i : ℕ) (o : Object) → AreSmall cs os → i < length os → o ≡ get_or os i o → size_of_object cs o ≤ 1048576
+pub size_small : (cs : List Class) (os : List Object) (i : ℕ) (o : Object) → AreSmall cs os → i < length os → o ≡ get_or os i o → size_of_object cs o ≤ most_array_bytes
 size_small cs os i o small less is = size_in_le cs o.shape (small_of_shape cs o.shape (shape_of cs os i o small less is))
 
 rising_few : (low next : ℕ) (os : List Object) → AreRising low next os → low + length os ≤ next

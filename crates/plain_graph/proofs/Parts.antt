@@ -1,5 +1,6 @@
 -- What one object adds to the image, to the regions and to the pages.
 use Rattle.std.proofs.Common.{◌≡◌, ℕ, suc, ◌+◌, ◌-◌, ◌<◌, ◌≤◌, List, [], ◌∷◌, ◌++◌, refl, ap, arith}
+use Rattle.model_numbers.specs.Numbers.{region_bytes, most_array_bytes}
 use Rattle.class_layout.specs.ClassList.{Class}
 use Rattle.heap_graph.specs.declared.names.Place.{Place}
 use Rattle.heap_graph.specs.declared.names.Place.TheVariants.{Image, Zygote, Young, Large, Promoted}
@@ -15,10 +16,10 @@ image_size-le cs o Young most h = omega arith
 image_size-le cs o Large most h = omega arith
 image_size-le cs o Promoted most h = omega arith
 
-few_regions : (bytes : ℕ) → bytes ≤ 1048576 → parts_for 262144 bytes ≤ 4
+few_regions : (bytes : ℕ) → bytes ≤ most_array_bytes → parts_for region_bytes bytes ≤ 4
 few_regions bytes h = omega arith
 
-pub cost-le : (cs : List Class) (o : Object) (place : Place) → unrounded cs o.shape ≤ 1048576 → cost cs o place ≤ 4
+pub cost-le : (cs : List Class) (o : Object) (place : Place) → unrounded cs o.shape ≤ most_array_bytes → cost cs o place ≤ 4
 cost-le cs o (Image spot) h = omega arith
 cost-le cs o (Zygote spot) h = omega arith
 cost-le cs o Young h = omega arith

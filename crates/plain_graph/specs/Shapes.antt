@@ -1,5 +1,6 @@
 -- Shapes whose class stands.
 use Rattle.std.specs.Prelude.{◌<◌, ◌≤◌, List, length}
+use Rattle.model_numbers.specs.Numbers.{number_limit}
 use Rattle.class_layout.specs.ClassList.{Class}
 use Rattle.heap_graph.specs.declared.names.Shape.{Shape}
 use Rattle.heap_graph.specs.declared.names.Shape.TheVariants.{Instance, Array}
@@ -14,4 +15,4 @@ HasClass cs (Array kind count) = Unit {0}
 -- the classes of the objects stand, none is too large, and there are at most 268,435,456
 pub record AreSmall (cs : List Class) (os : List Object) : Type 0 where
   pub objects : AreObjects cs os
-  pub few : length os ≤ 268435456
+  pub few : length os ≤ number_limit

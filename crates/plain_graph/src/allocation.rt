@@ -1,21 +1,18 @@
 ghost use Rattle.std.specs.Prelude.{◌≡◌, ◌+◌, ◌≤◌, true, false, IfOk, nat_le};
+ghost use Rattle.model_numbers.specs.Numbers.{image_length, number_limit};
 ghost use Rattle.heap_graph.specs.Allocation.{has_room, heap_place, make, make_collected, make_in_image, make_sealed, needs, with_heap_object, with_object};
 ghost use Rattle.heap_graph.specs.Graph.{image_fill};
-ghost use Rattle.heap_graph.specs.Sizes.{image_bytes, is_too_large, size_in};
+ghost use Rattle.heap_graph.specs.Sizes.{is_too_large, size_in};
 ghost use Rattle.heap_world.specs.Formed.{IsFormed};
 ghost use Rattle.plain_graph.specs.Allocated.{allocated_of};
 ghost use Rattle.plain_graph.specs.Shapes.{HasClass};
 
 use crate::packing::after;
-use crate::sizes::{REGION_BYTES, is_large, parts_for, size_in, unrounded};
+use crate::sizes::{is_large, parts_for, size_in, unrounded};
 use crate::{Graph, Object};
 use heap_graph::{Place, Shape, Stored};
+use model_numbers::{IMAGE_BASE, IMAGE_LENGTH, REGION_BYTES};
 use std::alloc::AllocError;
-
-// Where the image begins, and its bytes.
-const IMAGE_BASE: u64 = 0x2000_0000;
-
-const IMAGE_BYTES: u64 = 67_108_864;
 
 /// How the making of an object ends.
 #[derive(Drop)]
@@ -66,14 +63,14 @@ impl Graph {
     fn make_in_image(&self, shape: Shape, slots: &[Stored]) -> Result<Allocated, AllocError>
         requires formed { IsFormed self.now }
         requires class { HasClass self.now.classes shape }
-        ensures { IfOk result (λ a. allocated_of a ≡ make_in_image (nat_le (image_fill self.now + size_in self.now.classes shape) image_bytes) self.now shape slots.now) }
+        ensures { IfOk result (λ a. allocated_of a ≡ make_in_image (nat_le (image_fill self.now + size_in self.now.classes shape) image_length) self.now shape slots.now) }
     {
         let fill = self.image_fill();
         let size = size_in(self.classes(), shape);
-        if IMAGE_BYTES < fill + size {
+        if u64::from(IMAGE_LENGTH) < fill + size {
             return Ok(Allocated::ImageFull { fill, size });
         }
-        let place = Place::Image((IMAGE_BASE + fill) as u32);
+        let place = Place::Image(IMAGE_BASE + fill as u32);
         let graph = self.with_object(shape, slots, place)?;
         Ok(Allocated::Made {
             graph,
@@ -132,7 +129,7 @@ impl Graph {
 
     // The graph with one more object, in a region or in a slot of its own.
     fn with_heap_object(&self, shape: Shape, slots: &[Stored]) -> Result<Graph, AllocError>
-        requires few { self.now.next ≤ 268435456 }
+        requires few { self.now.next ≤ number_limit }
         requires class { HasClass self.now.classes shape }
         ensures { IfOk result (λ g. g ≡ with_heap_object self.now shape slots.now) }
     {
@@ -146,7 +143,7 @@ impl Graph {
 
     // The graph with one more object, under the next number.
     fn with_object(&self, shape: Shape, slots: &[Stored], place: Place) -> Result<Graph, AllocError>
-        requires few { self.now.next ≤ 268435456 }
+        requires few { self.now.next ≤ number_limit }
         ensures { IfOk result (λ g. g ≡ with_object self.now shape slots.now place) }
     {
         let object = Object {

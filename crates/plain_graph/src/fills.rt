@@ -1,4 +1,5 @@
 ghost use Rattle.std.specs.Prelude.{◌≡◌, ◌*◌, ◌^◌, ◌<◌, ◌≤◌, length, map, sum};
+ghost use Rattle.model_numbers.specs.Numbers.{most_array_bytes, number_limit};
 ghost use Rattle.heap_graph.specs.Graph.{greatest, image_fill, image_size, zygote_end, zygote_fill};
 ghost use Rattle.heap_world.specs.Formed.{IsFormed};
 ghost use Rattle.plain_graph.specs.Shapes.{AreSmall, HasClass};
@@ -7,9 +8,7 @@ use crate::sizes::size_in;
 use crate::{Graph, Object};
 use class_layout::Classes;
 use heap_graph::Place;
-
-// Where the zygote window begins.
-pub(crate) const ZYGOTE_BASE: u64 = 0x3000_0000;
+use model_numbers::ZYGOTE_BASE;
 
 impl Graph {
     /// The bytes of the image's objects.
@@ -17,7 +16,7 @@ impl Graph {
     pub fn image_fill(&self) -> u64
         requires formed { IsFormed self.now }
         ensures value { result ≡ image_fill self.now }
-        ensures small { result ≤ 1048576 * 268435456 }
+        ensures small { result ≤ most_array_bytes * number_limit }
     {
         image_bytes(self.classes(), self.objects())
     }
@@ -37,7 +36,7 @@ impl Graph {
 fn image_bytes(classes: &Classes, objects: &[Object]) -> u64
     requires { AreSmall classes.now objects.now }
     ensures value { result ≡ sum (map (λ o. image_size classes.now o o.place) objects.now) }
-    ensures small { result ≤ 1048576 * length objects.now }
+    ensures small { result ≤ most_array_bytes * length objects.now }
 {
     let mut fill = 0;
     for o in objects {
@@ -79,7 +78,7 @@ fn zygote_end(classes: &Classes, o: &Object) -> u64
 {
     match o.place {
         Place::Zygote(spot) => {
-            (u64::from(spot) + size_in(classes, o.shape)).saturating_sub(ZYGOTE_BASE)
+            (u64::from(spot) + size_in(classes, o.shape)).saturating_sub(u64::from(ZYGOTE_BASE))
         }
         _ => 0,
     }

@@ -1,20 +1,18 @@
 //! What a fork does to the graph of the process that forks.
 ghost use Rattle.std.specs.Prelude.{◌≡◌, ◌+◌, ◌^◌, ◌<◌, ◌≤◌, true, IfOk};
+ghost use Rattle.model_numbers.specs.Numbers.{zygote_length};
 ghost use Rattle.heap_graph.specs.Fork as fork;
 ghost use Rattle.heap_graph.specs.Graph.{size_of_object};
 ghost use Rattle.heap_world.specs.Formed.{IsFormed};
 ghost use Rattle.plain_graph.specs.Shapes.{AreSmall, HasClass};
 ghost use Rattle.plain_graph.specs.Spots.{young_bytes};
 
-use crate::fills::ZYGOTE_BASE;
-use crate::sizes::{PAGE_BYTES, size_in};
+use crate::sizes::size_in;
 use crate::{Graph, Object};
 use class_layout::Classes;
 use heap_graph::Place;
+use model_numbers::{PAGE_BYTES, ZYGOTE_BASE, ZYGOTE_LENGTH};
 use std::alloc::{AllocError, Global};
-
-// The bytes of the zygote window.
-const ZYGOTE_BYTES: u64 = 0x1000_0000;
 
 impl Graph {
     /// Where the first object that a fork promotes will stand, in bytes from the start of the zygote window: the first
@@ -24,7 +22,7 @@ impl Graph {
         ensures value { result ≡ fork.promotion_start self.now }
         ensures small { result < 2 ^ 40 }
     {
-        self.zygote_fill().next_multiple_of(PAGE_BYTES)
+        self.zygote_fill().next_multiple_of(u64::from(PAGE_BYTES))
     }
 
     /// The bytes that a fork promotes to the zygote window: those of the young objects.
@@ -42,7 +40,7 @@ impl Graph {
         requires formed { IsFormed self.now }
         ensures { result ≡ fork.has_zygote_room self.now }
     {
-        self.promotion_start() + self.promotion_bytes() <= ZYGOTE_BYTES
+        self.promotion_start() + self.promotion_bytes() <= u64::from(ZYGOTE_LENGTH)
     }
 
     /// The graph of the process that forks, after the fork: its young objects stand in the zygote window, by rising
@@ -61,12 +59,12 @@ impl Graph {
 impl Object {
     // The object after a fork, with this spot of the zygote window where it was young.
     fn promoted(&self, at: u64) -> Result<Object, AllocError>
-        requires { at ≤ 268435456 }
+        requires { at ≤ zygote_length }
         ensures { IfOk result (λ o. o ≡ record self.now { place = fork.promoted_place at self.now.place }) }
     {
         let mut object = self.copied()?;
         object.place = match self.place {
-            Place::Young => Place::Zygote((ZYGOTE_BASE + at) as u32),
+            Place::Young => Place::Zygote(ZYGOTE_BASE + at as u32),
             Place::Large => Place::Promoted,
             place => place,
         };
@@ -97,7 +95,7 @@ fn promoted_from(
     objects: &[Object],
 ) -> Result<Vec<Object>, AllocError>
     requires small { AreSmall classes.now objects.now }
-    requires room { start + young_bytes classes.now objects.now ≤ 268435456 }
+    requires room { start + young_bytes classes.now objects.now ≤ zygote_length }
     ensures { IfOk result (λ os. os.items ≡ fork.promoted_from classes.now start objects.now) }
 {
     let mut at = start;

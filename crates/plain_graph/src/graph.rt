@@ -1,5 +1,6 @@
 ghost use Rattle.std.specs.Prelude.{◌≡◌, ◌≤◌, ◌⊎◌, true, List, length, Ok, Err, IfOk, IfErr};
 ghost use Rattle.std.specs.Option.{option_copied};
+ghost use Rattle.model_numbers.specs.Numbers.{field_limit};
 ghost use Rattle.class_layout.specs.ClassList.{Class, define_class};
 ghost use Rattle.heap_graph.specs.Fork.{child_of};
 ghost use Rattle.heap_graph.specs.Graph.{first_graph, object_at};
@@ -135,7 +136,7 @@ impl Graph {
         parent: &Name,
         fields: &[FieldDecl],
     ) -> Result<Graph, DefineError>
-        requires { length fields.now ≤ 4096 }
+        requires { length fields.now ≤ field_limit }
         ensures made { IfOk result (λ g. (cs : List Class) × (define_class self.now.classes name parent.now fields.now ≡ Ok cs) × (g ≡ record self.now { classes = cs })) }
         ensures refused { IfErr result (λ e. (e ≡ DefineError.OutOfMemory) ⊎ (define_class self.now.classes name parent.now fields.now ≡ Err e)) }
         ensures err { IfErr (define_class self.now.classes name parent.now fields.now) (λ e. (result ≡ Err DefineError.OutOfMemory) ⊎ (result ≡ Err e)) }

@@ -17,4 +17,4 @@ mod values;
 pub use allocation::Allocated;
 pub use graph::Graph;
 pub use object::Object;
-pub use sizes::{PAGE_BYTES, REGION_BYTES, is_large, is_ref, is_too_large, size_in, unrounded};
+pub use sizes::{is_large, is_ref, is_too_large, size_in, unrounded};

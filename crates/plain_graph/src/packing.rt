@@ -1,15 +1,17 @@
-ghost use Rattle.std.specs.Prelude.{◌≡◌, ◌+◌, ◌*◌, ◌^◌, ◌<◌, ◌≤◌, ◌++◌, IfOk, OnOk, filter, length, map, sum};
+ghost use Rattle.std.specs.Prelude.{◌≡◌, ◌+◌, ◌-◌, ◌*◌, ◌^◌, ◌<◌, ◌≤◌, ◌++◌, IfOk, OnOk, filter, length, map, sum};
 ghost use Rattle.std.specs.List.{All};
+ghost use Rattle.model_numbers.specs.Numbers.{region_bytes, most_array_bytes, number_limit};
 ghost use Rattle.heap_graph.specs.Graph.{is_young, size_of_object};
 ghost use Rattle.heap_graph.specs.Packing.{after, cost, costs, end_from, end_of, free, place, places_from, used, young_sizes};
 ghost use Rattle.heap_world.specs.Formed.{IsFormed};
 ghost use Rattle.heap_world.specs.Pages.{all_covered, covered};
 ghost use Rattle.plain_graph.specs.Shapes.{AreSmall, HasClass};
 
-use crate::sizes::{PAGE_BYTES, REGION_BYTES, parts_for, size_in, unrounded};
+use crate::sizes::{parts_for, size_in, unrounded};
 use crate::{Graph, Object};
 use class_layout::Classes;
 use heap_graph::Place;
+use model_numbers::{PAGE_BYTES, REGION_BYTES};
 use std::alloc::{AllocError, Global};
 
 impl Graph {
@@ -54,8 +56,8 @@ impl Graph {
     pub(crate) fn young_sizes(&self) -> Result<Vec<u64>, AllocError>
         requires formed { IsFormed self.now }
         ensures value { IfOk result (λ v. v.items ≡ young_sizes self.now) }
-        ensures small { IfOk result (λ v. All (λ s. s ≤ 1048576) v.items) }
-        ensures few { IfOk result (λ v. length v.items ≤ 268435456) }
+        ensures small { IfOk result (λ v. All (λ s. s ≤ most_array_bytes) v.items) }
+        ensures few { IfOk result (λ v. length v.items ≤ number_limit) }
     {
         sizes_of_young(self.alloc, self.classes(), self.objects())
     }
@@ -65,7 +67,7 @@ impl Graph {
     pub(crate) fn end_of(&self) -> u64
         requires formed { IsFormed self.now }
         ensures value { result ≡ end_of self.now }
-        ensures small { result ≤ 1310720 * 268435456 }
+        ensures small { result ≤ (most_array_bytes + region_bytes) * number_limit }
     {
         end_of_young(self.classes(), self.objects())
     }
@@ -76,12 +78,13 @@ pub(crate) fn place(from: u64, size: u64) -> u64
     requires { from + size < 2 ^ 63 }
     ensures value { result ≡ place from size }
     ensures behind { from ≤ result }
-    ensures near { result ≤ from + 262143 }
+    ensures near { result ≤ from + (region_bytes - 1) }
 {
-    if from / REGION_BYTES == (from + size).saturating_sub(1) / REGION_BYTES {
+    let region = u64::from(REGION_BYTES);
+    if from / region == (from + size).saturating_sub(1) / region {
         from
     } else {
-        from.next_multiple_of(REGION_BYTES)
+        from.next_multiple_of(region)
     }
 }
 
@@ -90,7 +93,7 @@ pub(crate) fn after(from: u64, size: u64) -> u64
     requires { from + size < 2 ^ 63 }
     ensures value { result ≡ after from size }
     ensures behind { from ≤ result }
-    ensures near { result ≤ from + 262143 + size }
+    ensures near { result ≤ from + (region_bytes - 1) + size }
 {
     place(from, size) + size
 }
@@ -104,8 +107,8 @@ fn sizes_of_young(
 ) -> Result<Vec<u64>, AllocError>
     requires { AreSmall classes.now objects.now }
     ensures value { IfOk result (λ v. v.items ≡ map (size_of_object classes.now) (filter (λ o. is_young o.place) objects.now)) }
-    ensures small { IfOk result (λ v. All (λ s. s ≤ 1048576) v.items) }
-    ensures few { IfOk result (λ v. length v.items ≤ 268435456) }
+    ensures small { IfOk result (λ v. All (λ s. s ≤ most_array_bytes) v.items) }
+    ensures few { IfOk result (λ v. length v.items ≤ number_limit) }
 {
     let mut sizes = Vec::new(alloc);
     for o in objects {
@@ -121,7 +124,7 @@ fn sizes_of_young(
 fn end_of_young(classes: &Classes, objects: &[Object]) -> u64
     requires { AreSmall classes.now objects.now }
     ensures value { result ≡ end_from 0 (map (size_of_object classes.now) (filter (λ o. is_young o.place) objects.now)) }
-    ensures small { result ≤ 1310720 * length objects.now }
+    ensures small { result ≤ (most_array_bytes + region_bytes) * length objects.now }
 {
     let mut end = 0;
     for o in objects {
@@ -158,8 +161,8 @@ fn cost(classes: &Classes, o: &Object) -> u64
 
 // The pages that packed sizes cover, size by size.
 fn covered_pages(alloc: Global, sizes: &[u64]) -> Result<Vec<u64>, AllocError>
-    requires small { All (λ s. s ≤ 1048576) sizes.now }
-    requires few { length sizes.now ≤ 268435456 }
+    requires small { All (λ s. s ≤ most_array_bytes) sizes.now }
+    requires few { length sizes.now ≤ number_limit }
     ensures { IfOk result (λ v. v.items ≡ all_covered (places_from 0 sizes.now) sizes.now) }
 {
     let mut pages = Vec::new(alloc);
@@ -177,8 +180,8 @@ fn add_covered(pages: &mut Vec<u64>, at: u64, size: u64) -> Result<(), AllocErro
     requires { at + size < 2 ^ 63 }
     ensures { OnOk result (pages.new.items ≡ pages.old.items ++ covered at size) }
 {
-    let first = at / PAGE_BYTES;
-    let end = (at + size).saturating_sub(1) / PAGE_BYTES + 1;
+    let first = at / PAGE_BYTES as u64;
+    let end = (at + size).saturating_sub(1) / PAGE_BYTES as u64 + 1;
     for page in first..end {
         pages.push(page)?;
     }

@@ -5,15 +5,7 @@ ghost use Rattle.plain_graph.specs.Shapes.{HasClass};
 
 use class_layout::{Classes, Kind, array_unrounded};
 use heap_graph::Shape;
-
-/// The bytes of a page.
-pub const PAGE_BYTES: u64 = 4_096;
-
-/// The bytes of a region.
-pub const REGION_BYTES: u64 = 262_144;
-
-// An array of primitives from this many bytes on is large.
-const LARGE_FROM: u64 = 12_288;
+use model_numbers::{LEAST_LARGE, MOST_ARRAY_BYTES, MOST_OBJECT_BYTES};
 
 /// The end of an object's last field or element, in bytes from its start.
 pub fn unrounded(classes: &Classes, shape: Shape) -> u64
@@ -41,7 +33,7 @@ pub fn is_large(classes: &Classes, shape: Shape) -> bool
     requires { HasClass classes.now shape }
     ensures { result ≡ is_large classes.now shape }
 {
-    is_primitive_array(shape) && LARGE_FROM <= unrounded(classes, shape)
+    is_primitive_array(shape) && u64::from(LEAST_LARGE) <= unrounded(classes, shape)
 }
 
 /// Whether an object has more bytes than it may have: 1,048,576 for an array of primitives, else 262,144.
@@ -49,7 +41,7 @@ pub fn is_too_large(classes: &Classes, shape: Shape) -> bool
     requires { HasClass classes.now shape }
     ensures { result ≡ is_too_large classes.now shape }
 {
-    most_bytes(is_primitive_array(shape)) < unrounded(classes, shape)
+    u64::from(most_bytes(is_primitive_array(shape))) < unrounded(classes, shape)
 }
 
 /// Whether values of the kind are references.
@@ -60,11 +52,11 @@ pub fn is_ref(kind: Kind) -> bool
 }
 
 /// How many parts of so many bytes hold this many bytes.
-pub(crate) fn parts_for(part: u64, bytes: u64) -> u64
+pub(crate) fn parts_for(part: u32, bytes: u64) -> u64
     requires { 0 < part }
     ensures { result ≡ parts_for part bytes }
 {
-    bytes.div_ceil(part)
+    bytes.div_ceil(part as u64)
 }
 
 fn is_primitive_array(shape: Shape) -> bool
@@ -77,8 +69,12 @@ fn is_primitive_array(shape: Shape) -> bool
 }
 
 // The most bytes that an object may have.
-fn most_bytes(primitive_array: bool) -> u64
+fn most_bytes(primitive_array: bool) -> u32
     ensures { result ≡ most_bytes primitive_array }
 {
-    if primitive_array { 1_048_576 } else { 262_144 }
+    if primitive_array {
+        MOST_ARRAY_BYTES
+    } else {
+        MOST_OBJECT_BYTES
+    }
 }

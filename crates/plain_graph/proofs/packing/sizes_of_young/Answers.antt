@@ -1,6 +1,7 @@
 use Rattle.std.proofs.Common.{◌≡◌, ◌≤◌, ◌++◌, ◌∷◌, [], Bool, length, sym, ap, subst, ◌∙◌, arith, length-append}
 use Rattle.std.proofs.lemmas.List.Elements.{All-push}
 use Rattle.std.specs.List.{All}
+use Rattle.model_numbers.specs.Numbers.{most_array_bytes}
 use Rattle.heap_graph.specs.Graph.{Object, is_young, size_of_object}
 use Rattle.heap_graph.specs.Sizes.{size_in}
 use Rattle.plain_graph.proofs.FormedObjects.{size_small}
@@ -25,14 +26,14 @@ loop-o-preserved c =
             so_far = items ∙ ap (λ ns. ns ++ size_of_object cs o ∷ []) inv.so_far ∙ sym (kept_more young (size_of_object cs) os i o c.loop-o-test.true c.o-item.is (sym w.if-is_young.ensures));
             small =
                 let here = size_small cs os i o c.requires c.loop-o-test.true c.o-item.is in
-                subst (λ ns. All (λ s. s ≤ 1048576) ns) (sym items) (All-push (λ s. s ≤ 1048576) c.loop-o.sizes.items (size_of_object cs o) inv.small here);
+                subst (λ ns. All (λ s. s ≤ most_array_bytes) ns) (sym items) (All-push (λ s. s ≤ most_array_bytes) c.loop-o.sizes.items (size_of_object cs o) inv.small here);
             few = omega (arith, ap length items, length-append c.loop-o.sizes.items (size_of_object cs o ∷ []));
           }
       | else-is_young w ↦
           let items : c.if-is_young.sizes.items ≡ c.loop-o.sizes.items = ap (λ v. v.items) w.sizes-is in
           record {
             so_far = items ∙ inv.so_far ∙ sym (kept_same young (size_of_object cs) os i o c.loop-o-test.true c.o-item.is (sym w.if-is_young.ensures));
-            small = subst (λ ns. All (λ s. s ≤ 1048576) ns) (sym items) inv.small;
+            small = subst (λ ns. All (λ s. s ≤ most_array_bytes) ns) (sym items) inv.small;
             few = omega (arith, ap length items);
           }
     ]
