@@ -3,3 +3,4 @@ mod Apart
 mod Packed
 mod Fitting
 mod Homes
+mod Listed

@@ -52,6 +52,12 @@ table_from homes cs end large (o ∷ os) n =
     cond (nat_eq o.number n) (address_in homes cs end large o o.place)
     (table_from homes cs (end_behind cs end o o.place) (large_behind large o.place) os n)
 
+-- the addresses of objects behind others, in a row
+abbrev pub addresses_from : Homes → List Class → ℕ → ℕ → List Object → List ℕ
+addresses_from homes cs end large [] = []
+addresses_from homes cs end large (o ∷ os) =
+    address_in homes cs end large o o.place ∷ addresses_from homes cs (end_behind cs end o o.place) (large_behind large o.place) os
+
 -- the addresses of a graph's objects, by number
 abbrev pub table_of : Homes → Graph → ℕ → ℕ
 table_of homes g = table_from homes g.classes 0 0 g.objects
