@@ -15,14 +15,14 @@ use Rattle.heap_graph.specs.Values.{slot_of, held_of, value_at}
 use Rattle.heap_world.specs.declared.command.Verb.{Verb}
 use Rattle.heap_world.specs.declared.command.Verb.TheVariants as verb
 use Rattle.heap_world.specs.declared.reply.Refusal.{Refusal}
-use Rattle.heap_world.specs.Acts.{act, after_define, store_effect, with_slot, store, set_field, put_element, get_field, get_element, copy_root, load_slot, load_field, load_element, drop_held, show_root, seal_if, gc_if, fork_collected, fork_by}
+use Rattle.heap_world.specs.Acts.{act, after_define, store_effect, with_slot, store, set_field, put_element, get_field, get_element, copy_root, load_slot, load_field, load_element, drop_held, show_root, seal_if, gc_if, fork_collected, fork_by, dump_counted, dump_if}
 use Rattle.heap_world.specs.Effect.{Effect, effect_or}
 use Rattle.heap_world.specs.Formed.{IsFormed, FitsKind, HasSlot, HasFewFields}
 use Rattle.heap_world.specs.Part.{Part}
 use Rattle.heap_world.specs.Slots.{◌>>=◌, slot_named, slot_indexed, held_by_root, object_held, named_by, stored_value, only_reference}
 use Rattle.heap_world.proofs.FormedAims.{Aims, RootsAim, closed_roots, closed_objects, roots_aim-drop}
 use Rattle.heap_world.proofs.FormedDefine.{IsGrown, define-grows}
-use Rattle.heap_world.proofs.FormedKept.{classes_formed, roots_formed, write_formed, sealed_formed, collect_formed, promoted_formed, store_formed}
+use Rattle.heap_world.proofs.FormedKept.{classes_formed, roots_formed, write_formed, sealed_formed, collect_formed, promoted_formed, store_formed, counted_formed}
 use Rattle.heap_world.proofs.FormedMake.{Keeps, shape_keeps, new_keeps, weak_keeps}
 use Rattle.heap_world.proofs.FormedValues.{both-ok, names-drop, stored-fits}
 use Rattle.heap_world.proofs.FormedStores.{next_step, held-aims, named-aims, stored-aims, loaded-aims, found-aims, object-found, named-slot, indexed-slot}
@@ -150,6 +150,11 @@ module _ (p : Part) (formed : IsFormed p.graph) where
   fork_keeps true e = fork_collected_keeps e (has_zygote_room (collect g)) refl
   fork_keeps false e = formed
 
+  -- dump
+  dump_keeps : (b : Bool) → Keeps (dump_if b p)
+  dump_keeps true = counted_formed g (dump_counted g).dumps formed
+  dump_keeps false = formed
+
 -- each command
 pub act_keeps : (p : Part) (v : Verb) → HasFewFields v → IsFormed p.graph → IsFormed (act p v).part.graph
 act_keeps p (verb.Class name parent fields) few formed =
@@ -173,3 +178,4 @@ act_keeps p verb.Exit few formed = formed
 act_keeps p verb.Free few formed = formed
 act_keeps p verb.Pages few formed = formed
 act_keeps p verb.Frames few formed = formed
+act_keeps p verb.Dump few formed = dump_keeps p formed p.graph.sealed

@@ -142,10 +142,10 @@ sealed_formed g formed =
     }
     in formed_from (record g { sealed = true }) core (sealed-placed g formed)
 
--- a child
-pub child_formed : (g : Graph) → IsFormed g → IsFormed (record g { dumps = 0 })
-child_formed g formed =
-    let core : IsCore (record g { dumps = 0 }) =
+-- the count of dumps is nothing to the rest of the graph
+pub counted_formed : (g : Graph) (n : ℕ) → IsFormed g → IsFormed (record g { dumps = n })
+counted_formed g n formed =
+    let core : IsCore (record g { dumps = n }) =
     record {
       classes = formed.classes;
       numbers = formed.numbers;
@@ -156,7 +156,11 @@ child_formed g formed =
       root_names = formed.root_names;
       values = formed.values;
     }
-    in formed_from (record g { dumps = 0 }) core (placed_of g formed)
+    in formed_from (record g { dumps = n }) core (placed_of g formed)
+
+-- a child
+pub child_formed : (g : Graph) → IsFormed g → IsFormed (record g { dumps = 0 })
+child_formed g formed = counted_formed g 0 formed
 
 -- what a collection of a sealed graph doesn't keep isn't immune
 pub loose-dropped : (g : Graph) → g.sealed ≡ true → (o : Object) → is_kept g.sealed (reached g) o ≡ false → is_immune true o.place ≡ false

@@ -24,7 +24,7 @@ use Rattle.heap_graph.specs.Values.{held_of, slot_of, value_at}
 use Rattle.heap_world.specs.declared.command.Verb.{Verb}
 use Rattle.heap_world.specs.declared.command.Verb.TheVariants as verb
 use Rattle.heap_world.specs.declared.reply.Refusal.{Refusal}
-use Rattle.heap_world.specs.Acts.{act, after_define, after_make, copy_root, drop_held, fork_by, fork_collected, gc_if, get_element, get_field, load_element, load_field, load_slot, make_numbered, make_shape, make_sized, make_slots, make_weak, new_of_class, part_after, put_element, referent_at, root_written, seal_if, set_field, show_root, store}
+use Rattle.heap_world.specs.Acts.{act, after_define, after_make, copy_root, drop_held, fork_by, fork_collected, gc_if, get_element, get_field, load_element, load_field, load_slot, make_numbered, make_shape, make_sized, make_slots, make_weak, new_of_class, part_after, put_element, referent_at, root_written, seal_if, set_field, show_root, store, dump_counted, dump_if}
 use Rattle.heap_world.specs.Effect.{Effect, effect_or}
 use Rattle.heap_world.specs.Formed.{IsFormed, FitsKind, HasFewFields, HasSlot, is_in_image}
 use Rattle.heap_world.specs.Part.{Part, first_part, is_noted, with_collected}
@@ -232,6 +232,10 @@ module _ (p : Part) (formed : IsFormed p.graph) (marked : IsMarked p) where
       marked-none q refl (distinct-none same_card) marked.held_once
       (all-immune (λ card. is_noted q card ≡ true) h (all-weaken _ _ (λ o image. image_immune o.place image) g.objects (formed.before_seal e)))
 
+  dump_marks : (b : Bool) → Marks (dump_if b p)
+  dump_marks true = marked-graph p (dump_counted g) refl refl marked.outward_noted marked
+  dump_marks false = marked
+
   gc_marks : (b : Bool) → g.sealed ≡ b → Marks (gc_if b p)
   gc_marks true e = marked-collected p (collect g) refl (standing-collect g e formed) (outward-held g) marked
   gc_marks false e = marked
@@ -281,6 +285,7 @@ act_marks p verb.Exit few formed m = exit_marks p formed m
 act_marks p verb.Free few formed m = m
 act_marks p verb.Pages few formed m = m
 act_marks p verb.Frames few formed m = m
+act_marks p verb.Dump few formed m = dump_marks p formed m p.graph.sealed
 
 pub act_sound : (p : Part) (v : Verb) → HasFewFields v → IsSound p → IsSound (act p v).part
 act_sound p v few sound = sound_from (act p v).part (act_keeps p v few sound.formed) (act_marks p v few sound.formed (marked_of p sound))

@@ -1,5 +1,5 @@
 -- Each command of a process: its refusals in their order, and what it does.
-use Rattle.std.specs.Prelude.{ℕ, ◌+◌, ◌-◌, ◌*◌, ◌/◌, Bool, true, false, List, [], ◌∷◌, ◌++◌, Option, None, Some, Result, Ok, Err, map, length, nat_le, nat_eq, slice_get, codes, count_by, sum}
+use Rattle.std.specs.Prelude.{ℕ, ◌+◌, ◌-◌, ◌*◌, ◌/◌, Bool, true, false, List, [], ◌∷◌, ◌++◌, Option, None, Some, Result, Ok, Err, map, filter, min, length, ◌^◌, nat_le, nat_eq, slice_get, codes, count_by, sum}
 use Rattle.model_numbers.specs.Numbers.{page_bytes, number_limit}
 use Rattle.class_layout.specs.declared.kind.Kind.{Kind}
 use Rattle.class_layout.specs.declared.kind.Kind.TheVariants as kind
@@ -28,6 +28,7 @@ use Rattle.heap_graph.specs.Allocation as allocated
 use Rattle.heap_graph.specs.Collection.{collect, loose_count, freed_count}
 use Rattle.heap_graph.specs.Fork.{promotion_start, promotion_bytes, has_zygote_room, promoted}
 use Rattle.heap_graph.specs.Packing.{free, young_objects}
+use Rattle.heap_graph.specs.Table.{in_spot_window}
 use Rattle.heap_graph.specs.Sizes.{parts_for, is_large, is_too_large, size_in, unrounded}
 use Rattle.heap_graph.specs.Values.{slot_of, held_of, value_at, with_stored}
 use Rattle.heap_world.specs.declared.names.PageName.{PageName}
@@ -309,9 +310,13 @@ gc_if true p = gc_to p (collect p.graph)
 abbrev pub fork_reads : Part → ℕ
 fork_reads p = 4096 * noted_count p
 
--- for each object that it promotes, a fork allows four reads per 4-byte word and 16
+-- for an object, four reads per 4-byte word and 16
+abbrev pub object_reads : List Class → Object → ℕ
+object_reads cs o = 4 * (size_of_object cs o / 4) + 16
+
+-- a fork allows so many for each object that it promotes
 abbrev pub promotion_reads : Graph → ℕ
-promotion_reads g = sum (map (λ o. 4 * (size_of_object g.classes o / 4) + 16) (young_objects g))
+promotion_reads g = sum (map (object_reads g.classes) (young_objects g))
 
 -- the pages of the zygote window that a fork makes
 abbrev pub fork_pages : Graph → List PageName
@@ -347,6 +352,31 @@ abbrev pub fork_by : Bool → Part → Effect
 fork_by false p = refuses p refusal.NotSealed
 fork_by true p = fork_part p
 
+-- dump
+
+-- the count of dumps stands still at the last value of 32 bits
+abbrev pub dump_counted : Graph → Graph
+dump_counted g = record g { dumps = min (g.dumps + 1) (2 ^ 32 - 1) }
+
+-- a dump allows so many reads for each object of the image and of the zygote window
+abbrev pub dump_reads : Graph → ℕ
+dump_reads g = sum (map (object_reads g.classes) (filter (λ o. in_spot_window o.place) g.objects))
+
+abbrev pub dump_to : Part → Graph → Effect
+dump_to p g =
+    record {
+      part = record p { graph = g };
+      reply = reply.Dumped g.dumps (length g.objects);
+      made = [];
+      first = [];
+      allowed = line_reads + dump_reads g;
+    }
+
+-- only a sealed process is dumped
+abbrev pub dump_if : Bool → Part → Effect
+dump_if false p = refuses p refusal.NotSealed
+dump_if true p = dump_to p (dump_counted p.graph)
+
 -- pages
 
 abbrev pub page_counts : Part → Reply
@@ -376,3 +406,4 @@ act p verb.Exit = tells (record p { exited = true }) reply.Done
 act p verb.Free = tells p (reply.Regions (free p.graph))
 act p verb.Pages = tells p (page_counts p)
 act p verb.Frames = tells p reply.Done
+act p verb.Dump = dump_if p.graph.sealed p

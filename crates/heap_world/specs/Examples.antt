@@ -311,3 +311,31 @@ large_object_over_fork_answers =
     ∷ answer 11 (reply.Kept 0 0)
     ∷ answer 12 (reply.Regions 60)
     ∷ []
+
+abbrev pub dumps : List Line
+dumps =
+    line 1 (codes "zygote") (verb.Dump)
+    ∷ line 2 (codes "zygote") (verb.Class (codes "P") (codes "java.lang.Object") (field (codes "x") kind.Int ∷ []))
+    ∷ line 3 (codes "zygote") (verb.New (codes "a") (codes "P"))
+    ∷ line 4 (codes "zygote") (verb.Seal)
+    ∷ line 5 (codes "zygote") (verb.Dump)
+    ∷ line 6 (codes "zygote") (verb.New (codes "b") (codes "P"))
+    ∷ line 7 (codes "zygote") (verb.Dump)
+    ∷ line 8 (codes "zygote") (verb.Fork (codes "c1"))
+    ∷ line 9 (codes "c1") (verb.New (codes "d") (codes "P"))
+    ∷ line 10 (codes "c1") (verb.Dump)
+    ∷ []
+
+abbrev pub dumps_answers : List Answer
+dumps_answers =
+    answer 1 (reply.Refused refusal.NotSealed)
+    ∷ answer 2 (reply.Class 2)
+    ∷ answer 3 (reply.Made 1 false)
+    ∷ answer 4 (reply.Done)
+    ∷ answer 5 (reply.Dumped 1 1)
+    ∷ answer 6 (reply.Made 2 false)
+    ∷ answer 7 (reply.Dumped 2 2)
+    ∷ answer 8 (reply.Done)
+    ∷ answer 9 (reply.Made 3 false)
+    ∷ answer 10 (reply.Dumped 1 3)
+    ∷ []

@@ -141,4 +141,6 @@ pub enum Verb {
     Pages,
     /// Counts the frames of all processes.
     Frames,
+    /// Writes a dump of the process and its table of addresses.
+    Dump,
 }

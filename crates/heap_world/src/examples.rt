@@ -1,7 +1,7 @@
 //! The definitions, computed: what the world answers to small scripts. Each function's contract is an example.
 ghost use Rattle.std.specs.Prelude.{◌≡◌};
 ghost use Rattle.heap_world.specs.Examples as example;
-ghost use Rattle.heap_world.specs.Run.{answers};
+ghost use Rattle.heap_world.specs.Run.{allowance, answers};
 ghost use Rattle.heap_world.specs.World.{first_world};
 
 fn fork_and_store()
@@ -34,4 +34,11 @@ fn full_region()
 
 fn large_object_over_fork()
     ensures { answers (first_world 64 1) example.large_object_over_fork ≡ example.large_object_over_fork_answers }
+{}
+
+// An object of 16 bytes in the image or in the zygote window allows 32 reads: one in lines 5 and 7, two in line 10. Line
+// 8 promotes one.
+fn dumps()
+    ensures replies { answers (first_world 64 1) example.dumps ≡ example.dumps_answers }
+    ensures reads { allowance (first_world 64 1) example.dumps ≡ 320 }
 {}

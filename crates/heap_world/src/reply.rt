@@ -41,6 +41,11 @@ pub enum Reply {
     },
     /// So many frames are in use.
     Frames(u64),
+    /// It was the process's dump of this count, from 1, of so many objects.
+    Dumped {
+        count: u32,
+        objects: u32,
+    },
     /// Nothing was done, but for a collection where the heap or the zygote window is full.
     Refused(Refusal),
 }

@@ -4,7 +4,7 @@ ghost use Rattle.model_numbers.specs.Numbers.{field_limit};
 ghost use Rattle.class_layout.specs.ClassList.{Class, define_class};
 ghost use Rattle.heap_graph.specs.Fork.{child_of};
 ghost use Rattle.heap_graph.specs.Graph.{first_graph, object_at};
-ghost use Rattle.heap_world.specs.Acts.{stored_in, with_slot};
+ghost use Rattle.heap_world.specs.Acts.{dump_counted, stored_in, with_slot};
 
 use crate::Object;
 use class_layout::{Classes, DefineError, FieldDecl, Name};
@@ -143,6 +143,22 @@ impl Graph {
     {
         let mut graph = self.copied()?;
         graph.classes.define(name, parent, fields)?;
+        Ok(graph)
+    }
+
+    /// How often the process was dumped.
+    pub fn dumps(&self) -> u32
+        ensures { result ≡ self.now.dumps }
+    {
+        self.dumps
+    }
+
+    /// The graph with one more dump counted. The count stands still at the last value of 32 bits.
+    pub fn dumped(&self) -> Result<Graph, AllocError>
+        ensures { IfOk result (λ g. g ≡ dump_counted self.now) }
+    {
+        let mut graph = self.copied()?;
+        graph.dumps = graph.dumps.saturating_add(1);
         Ok(graph)
     }
 

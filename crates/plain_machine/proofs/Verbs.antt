@@ -29,6 +29,7 @@ fork_steps w line q verb.Exit child h = absurd cc
 fork_steps w line q verb.Free child h = absurd cc
 fork_steps w line q verb.Pages child h = absurd cc
 fork_steps w line q verb.Frames child h = absurd cc
+fork_steps w line q verb.Dump child h = absurd cc
 
 pub frames_steps : (w : World) (line : ℕ) (q : Process) (v : Verb) → is_frames v ≡ true → step_process w line q v ≡ record { world = w; reply = reply.Frames (frame_count w); allowed = 16 }
 frames_steps w line q verb.Frames h = refl
@@ -51,6 +52,7 @@ frames_steps w line q verb.Exit h = absurd cc
 frames_steps w line q verb.Free h = absurd cc
 frames_steps w line q verb.Pages h = absurd cc
 frames_steps w line q (verb.Fork child) h = absurd cc
+frames_steps w line q verb.Dump h = absurd cc
 
 pub own_steps : (w : World) (line : ℕ) (q : Process) (v : Verb) → forked_child v ≡ None → is_frames v ≡ false → step_process w line q v ≡ stepped w line q (act q.part v)
 own_steps w line q (verb.Class name parent fields) none other = refl
@@ -71,6 +73,7 @@ own_steps w line q verb.Gc none other = refl
 own_steps w line q verb.Exit none other = refl
 own_steps w line q verb.Free none other = refl
 own_steps w line q verb.Pages none other = refl
+own_steps w line q verb.Dump none other = refl
 own_steps w line q (verb.Fork child) none other = absurd cc
 own_steps w line q verb.Frames none other = absurd cc
 

@@ -49,6 +49,7 @@ impl Part {
             Verb::Free => Ok(self.free()),
             Verb::Pages => self.pages(),
             Verb::Frames => Ok(self.tells(Reply::Done)),
+            Verb::Dump => self.dump(),
         }
     }
 }

@@ -5,6 +5,7 @@
 mod act;
 mod cards;
 mod counts;
+mod dumps;
 mod frames;
 mod lives;
 mod machine;

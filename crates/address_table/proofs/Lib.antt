@@ -1,0 +1,6 @@
+mod Behind
+mod Apart
+mod Packed
+mod Fitting
+mod Homes
+mod Listed

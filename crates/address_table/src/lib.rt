@@ -1,0 +1,7 @@
+//! Where the objects of a graph stand: the table of their addresses, computed from where a process keeps what may stand
+//! in several places.
+#![tactic(auto)]
+
+mod laws;
+
+pub use laws::{addresses_are_listed, first_homes_suffice, tables_fit};

@@ -1,0 +1,112 @@
+#!/usr/bin/env python3
+"""Runs every example of docs/script.md and of examples/, and compares report and exit status with what stands there.
+
+usage: tools/run_examples.py [--fast] [PROGRAM]
+
+PROGRAM is crates/artheap_cli/out/artheap_cli if not given: ./build makes it. --fast leaves out scripts of more than
+10,000 lines. The status is 0 where each example is as it says.
+
+In docs/script.md an example is a block `script`, `pattern` or `bytes`, with its options behind that word, and the next
+block `report`, where `..` in front stands for lines that aren't shown. Between them the page tells the status. In a
+pattern `{0..9}` makes a line for each number, and `{x*100}` is 100 times x. In bytes each line ends as it says.
+In examples/ the first line of a script names its words where it wants an option.
+"""
+
+import os
+import re
+import subprocess
+import sys
+from collections import namedtuple
+
+TOP = os.path.dirname(os.path.dirname(os.path.realpath(__file__)))
+
+# where it stands, the words behind the program's name, the script, the status or None, and the lines of the report
+Example = namedtuple("Example", "place words script status report")
+
+
+def expanded(line):
+    """The lines that a line of a pattern stands for."""
+    line = re.sub(r"\{(.)\*(\d+)\}", lambda it: it[1] * int(it[2]), line)
+    span = re.search(r"\{(\d+)\.\.(\d+)\}", line)
+    if not span:
+        return [line]
+    return [line.replace(span[0], str(n)) for n in range(int(span[1]), int(span[2]) + 1)]
+
+
+def script_of(kind, lines):
+    if kind == "bytes":
+        signs = {r"\n": "\n", r"\r": "\r", r"\t": "\t"}
+        return re.sub(r"\\[nrt]", lambda it: signs[it[0]], "".join(lines)).encode()
+    if kind == "pattern":
+        lines = [made for line in lines for made in expanded(line)]
+    return "".join(f"{line}\n" for line in lines).encode()
+
+
+def examples_of_page(file):
+    with open(f"{TOP}/{file}", encoding="utf-8") as page:
+        text = page.read()
+    block = re.compile(r"^```(script|pattern|bytes|report)( [^\n]*)?\n(.*?)^```$", re.M | re.S)
+    given = None
+    for found in block.finditer(text):
+        kind, options, lines = found[1], (found[2] or "").split(), found[3].splitlines()
+        if kind != "report":
+            place = f"{file}:{text.count(chr(10), 0, found.start()) + 1}"
+            given = Example(place, ["run", *options], script_of(kind, lines), None, None)
+            end = found.end()
+        elif given:
+            told = re.search(r"status (\d)", text[end : found.start()])
+            yield given._replace(status=int(told[1]) if told else None, report=lines)
+            given = None
+
+
+def examples_of_folder(folder):
+    for name in sorted(os.listdir(f"{TOP}/{folder}")):
+        stem, kind = os.path.splitext(name)
+        if kind != ".script":
+            continue
+        with open(f"{TOP}/{folder}/{name}", "rb") as script, open(f"{TOP}/{folder}/{stem}.report", encoding="utf-8") as report:
+            text, lines = script.read(), report.read().splitlines()
+        asked = re.match(rb"# artheap (run [^\n]*)\n", text)
+        words = asked[1].decode().split() if asked else ["run"]
+        refused = any(re.match(r"\d+: E\d", line) for line in lines)
+        yield Example(f"{folder}/{name}", words, text, int(refused), lines)
+
+
+def difference(program, example):
+    """What isn't as the example says, or None."""
+    ran = subprocess.run([program, *example.words], input=example.script, capture_output=True)
+    lines = ran.stdout.decode(errors="replace").splitlines()
+    wanted = example.report
+    if wanted[:1] == [".."]:
+        wanted = wanted[1:]
+        lines = lines[-len(wanted) :]
+    for told, want in zip([*lines, "nothing"], [*wanted, "nothing"]):
+        if told != want:
+            return f"it says {want!r}, and the program {told!r}"
+    if example.status is not None and ran.returncode != example.status:
+        return f"it says status {example.status}, and the program ends with {ran.returncode}"
+    return None
+
+
+def main():
+    words = [it for it in sys.argv[1:] if it != "--fast"]
+    if len(words) > 1 or any(it.startswith("-") for it in words):
+        sys.exit(__doc__)
+    program = words[0] if words else f"{TOP}/crates/artheap_cli/out/artheap_cli"
+    if not os.access(program, os.X_OK):
+        sys.exit(f"{program} isn't there: ./build makes the program")
+    ran = differ = left_out = 0
+    for example in [*examples_of_page("docs/script.md"), *examples_of_folder("examples")]:
+        if "--fast" in sys.argv and example.script.count(b"\n") > 10000:
+            left_out += 1
+            continue
+        ran += 1
+        found = difference(program, example)
+        if found:
+            differ += 1
+            print(f"{example.place}: {found}", flush=True)
+    print(f"{ran} examples ran, {differ} differ, {left_out} left out")
+    sys.exit(1 if differ else 0)
+
+
+main()
