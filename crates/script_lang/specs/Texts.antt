@@ -52,6 +52,7 @@ reply_words (reply.Pages image image_written zygote zygote_written large large_w
     ++ codes " zygote " ++ decimal zygote ++ codes " " ++ decimal zygote_written
     ++ codes " large " ++ decimal large ++ codes " " ++ decimal large_written
 reply_words (reply.Frames count) = codes "frames " ++ decimal count
+reply_words (reply.Dumped count objects) = codes "dump " ++ decimal count ++ codes " objects " ++ decimal objects
 reply_words (reply.Refused why) = refusal_text why
 
 -- a line of the report: the line's number, the reply, and a line feed

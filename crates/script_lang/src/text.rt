@@ -116,6 +116,9 @@ fn put_reply(buf: &mut [u8; 512], at: usize, reply: &Reply) -> usize
             put_two(buf, at, b" large ", large, b" ", large_written)
         }
         Reply::Frames(count) => put_number(buf, at, b"frames ", count),
+        Reply::Dumped { count, objects } => {
+            put_two(buf, at, b"dump ", count, b" objects ", objects)
+        }
         Reply::Refused(refusal) => put_refusal(buf, at, refusal),
     }
 }
