@@ -1,3 +1,4 @@
+pub mod Access
 pub mod Address
 pub mod Memory
 pub mod View

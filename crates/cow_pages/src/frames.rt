@@ -1,9 +1,10 @@
 //! All frames and all page tables, behind their public calls.
 ghost use Rattle.std.specs.Prelude.{◌≡◌, ℕ, ◌≢◌, ◌⊎◌, ◌+◌, ◌≤◌, ◌%◌, max, [], ◌∷◌, true, false, IsTrue, IsOk, IfOk, OnOk, OnErr, Some, None, option_map};
-ghost use Rattle.std.specs.Int.{w16, w32, w64, to_le_bytes};
+ghost use Rattle.std.specs.Int.{w16, w32, w64};
+ghost use Rattle.cow_pages.specs.Access.{ReadsNumber, WritesNumber};
 ghost use Rattle.cow_pages.specs.Address.{page_of, is_in_window};
 ghost use Rattle.cow_pages.specs.Memory.{is_live, page_at, frame_at, is_mapped, is_written, mapped_in, written_in, used_frames, IsSettled, HasOneSharer, IsShared, IsFree, IsSound};
-ghost use Rattle.cow_pages.specs.View.{view_of, byte_at, u16_at, u32_at, u64_at, bytes_at, WritesBytes, SameView, OthersSeen, AllSeen, IsEmptyView, MapsPage, UnmapsPage};
+ghost use Rattle.cow_pages.specs.View.{view_of, byte_at, u16_at, u32_at, u64_at, WritesBytes, SameView, OthersSeen, AllSeen, IsEmptyView, MapsPage, UnmapsPage};
 ghost use Rattle.cow_pages.specs.Change.{ChangesPage, ChangesTable, KeepsRoom, TakesFrame, TakesOnCopy, TakesOne, FreesFrames, WritesPage, reads_after, MapsZeros, settled};
 
 use crate::address::{Addr, FrameNo, PageNo, TableNo, Window};
@@ -136,10 +137,7 @@ impl Frames {
     pub fn read_u16(&mut self, t: TableNo, at: Addr) -> u16
         requires aligned { at.0 % 2 ≡ 0 }
         requires mapped { IsTrue (is_mapped self.old t.0 (page_of at.0)) }
-        ensures value { result ≡ u16_at (view_of self.old t.0) at.0 }
-        ensures bytes { to_le_bytes w16 result ≡ bytes_at (view_of self.old t.0) at.0 2 }
-        ensures counts { self.new ≡ record self.old { reads = reads_after self.old.reads at.0 } }
-        ensures sound { IsSound self.new }
+        ensures { ReadsNumber u16_at w16 2 self.old self.new t.0 at.0 result }
     {
         let number = self.store.read(t, at);
         u16_in(&self.store.pool.frames[number].bytes, at.offset())
@@ -150,10 +148,7 @@ impl Frames {
     pub fn read_u32(&mut self, t: TableNo, at: Addr) -> u32
         requires aligned { at.0 % 4 ≡ 0 }
         requires mapped { IsTrue (is_mapped self.old t.0 (page_of at.0)) }
-        ensures value { result ≡ u32_at (view_of self.old t.0) at.0 }
-        ensures bytes { to_le_bytes w32 result ≡ bytes_at (view_of self.old t.0) at.0 4 }
-        ensures counts { self.new ≡ record self.old { reads = reads_after self.old.reads at.0 } }
-        ensures sound { IsSound self.new }
+        ensures { ReadsNumber u32_at w32 4 self.old self.new t.0 at.0 result }
     {
         let number = self.store.read(t, at);
         u32_in(&self.store.pool.frames[number].bytes, at.offset())
@@ -164,10 +159,7 @@ impl Frames {
     pub fn read_u64(&mut self, t: TableNo, at: Addr) -> u64
         requires aligned { at.0 % 8 ≡ 0 }
         requires mapped { IsTrue (is_mapped self.old t.0 (page_of at.0)) }
-        ensures value { result ≡ u64_at (view_of self.old t.0) at.0 }
-        ensures bytes { to_le_bytes w64 result ≡ bytes_at (view_of self.old t.0) at.0 8 }
-        ensures counts { self.new ≡ record self.old { reads = reads_after self.old.reads at.0 } }
-        ensures sound { IsSound self.new }
+        ensures { ReadsNumber u64_at w64 8 self.old self.new t.0 at.0 result }
     {
         let number = self.store.read(t, at);
         u64_in(&self.store.pool.frames[number].bytes, at.offset())
@@ -195,15 +187,7 @@ impl Frames {
     pub fn write_u16(&mut self, t: TableNo, at: Addr, v: u16) -> Result<(), AllocError>
         requires aligned { at.0 % 2 ≡ 0 }
         requires mapped { IsTrue (is_mapped self.old t.0 (page_of at.0)) }
-        ensures page { OnOk result (WritesPage self.old self.new t.0 at.0 (to_le_bytes w16 v)) }
-        ensures view { OnOk result (WritesBytes (view_of self.old t.0) (view_of self.new t.0) at.0 (to_le_bytes w16 v)) }
-        ensures others_seen { OnOk result (OthersSeen self.old self.new t.0) }
-        ensures reads_back { OnOk result (u16_at (view_of self.new t.0) at.0 ≡ v) }
-        ensures takes { OnOk result (TakesOnCopy self.old self.new t.0 (page_of at.0)) }
-        ensures succeeds { HasOneSharer self.old t.0 (page_of at.0) ⊎ (self.old.spare ≢ 0) → IsOk result }
-        ensures only { OnErr result (IsShared self.old t.0 (page_of at.0) × (self.old.spare ≡ 0)) }
-        ensures err { OnErr result (self.new ≡ self.old) }
-        ensures sound { IsSound self.new }
+        ensures { WritesNumber u16_at w16 result self.old self.new t.0 at.0 v }
     {
         self.store.write(t, at, &v.to_le_bytes())
     }
@@ -213,15 +197,7 @@ impl Frames {
     pub fn write_u32(&mut self, t: TableNo, at: Addr, v: u32) -> Result<(), AllocError>
         requires aligned { at.0 % 4 ≡ 0 }
         requires mapped { IsTrue (is_mapped self.old t.0 (page_of at.0)) }
-        ensures page { OnOk result (WritesPage self.old self.new t.0 at.0 (to_le_bytes w32 v)) }
-        ensures view { OnOk result (WritesBytes (view_of self.old t.0) (view_of self.new t.0) at.0 (to_le_bytes w32 v)) }
-        ensures others_seen { OnOk result (OthersSeen self.old self.new t.0) }
-        ensures reads_back { OnOk result (u32_at (view_of self.new t.0) at.0 ≡ v) }
-        ensures takes { OnOk result (TakesOnCopy self.old self.new t.0 (page_of at.0)) }
-        ensures succeeds { HasOneSharer self.old t.0 (page_of at.0) ⊎ (self.old.spare ≢ 0) → IsOk result }
-        ensures only { OnErr result (IsShared self.old t.0 (page_of at.0) × (self.old.spare ≡ 0)) }
-        ensures err { OnErr result (self.new ≡ self.old) }
-        ensures sound { IsSound self.new }
+        ensures { WritesNumber u32_at w32 result self.old self.new t.0 at.0 v }
     {
         self.store.write(t, at, &v.to_le_bytes())
     }
@@ -231,15 +207,7 @@ impl Frames {
     pub fn write_u64(&mut self, t: TableNo, at: Addr, v: u64) -> Result<(), AllocError>
         requires aligned { at.0 % 8 ≡ 0 }
         requires mapped { IsTrue (is_mapped self.old t.0 (page_of at.0)) }
-        ensures page { OnOk result (WritesPage self.old self.new t.0 at.0 (to_le_bytes w64 v)) }
-        ensures view { OnOk result (WritesBytes (view_of self.old t.0) (view_of self.new t.0) at.0 (to_le_bytes w64 v)) }
-        ensures others_seen { OnOk result (OthersSeen self.old self.new t.0) }
-        ensures reads_back { OnOk result (u64_at (view_of self.new t.0) at.0 ≡ v) }
-        ensures takes { OnOk result (TakesOnCopy self.old self.new t.0 (page_of at.0)) }
-        ensures succeeds { HasOneSharer self.old t.0 (page_of at.0) ⊎ (self.old.spare ≢ 0) → IsOk result }
-        ensures only { OnErr result (IsShared self.old t.0 (page_of at.0) × (self.old.spare ≡ 0)) }
-        ensures err { OnErr result (self.new ≡ self.old) }
-        ensures sound { IsSound self.new }
+        ensures { WritesNumber u64_at w64 result self.old self.new t.0 at.0 v }
     {
         self.store.write(t, at, &v.to_le_bytes())
     }

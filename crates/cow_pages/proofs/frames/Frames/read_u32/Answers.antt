@@ -1,4 +1,4 @@
-use Rattle.std.proofs.Common.{sym, ◌∙◌, ◌≡◌, ap, subst, arith, get_or, refl}
+use Rattle.std.proofs.Common.{rules, sym, ◌∙◌, ◌≡◌, ap, subst, arith, get_or, refl}
 use Rattle.std.specs.Int.{w32, from_le_bytes}
 use Rattle.cow_pages.specs.declared.store.Store.{Store}
 use Rattle.cow_pages.specs.View.{u32_at}
@@ -12,27 +12,20 @@ pub index-requires : goal.index-requires
 index-requires c =
     rw c.read-number.ensures.store (omega (arith, c.self.inside.store.pool.frames.ok, read_within c.self.inside.store c.self.invariant c.args.t.0 _ _ c.read-number.ensures.number))
 
-pub returns-clause-value : goal.returns-clause-value
+pub returns : goal.returns
 unfolding u32_at
-returns-clause-value c =
-    let s = c.self.inside.store in
-    let f = c.read-number.result in
-    let x = c.index.result.now in
-    let read : x ≡ get_or s.pool.frames.items f x = c.index.ensures ∙ ap (λ (st : Store). get_or st.pool.frames.items f x) c.read-number.ensures.store in
-    rw (← c.self.view_is)
-    (c.u32_in.ensures ∙ ap (from_le_bytes w32) (four-frame s c.self.invariant c.args.t.0 c.args.at.0 f c.offset.result x c.requires.aligned c.read-number.ensures.number read c.offset.ensures))
-
-pub returns-clause-bytes : goal.returns-clause-bytes
-returns-clause-bytes c =
+returns c =
     let s = c.self.inside.store in
     let f = c.read-number.result in
     let x = c.index.result.now in
     let read : x ≡ get_or s.pool.frames.items f x = c.index.ensures ∙ ap (λ (st : Store). get_or st.pool.frames.items f x) c.read-number.ensures.store in
     let small = small_four x.bytes c.offset.result (small_bytes s c.self.invariant c.args.t.0 _ f x c.read-number.ensures.number read) in
-    rw (← c.self.view_is)
-    (le_bytes_4 (four x.bytes c.offset.result) c.u32_in.result refl small c.u32_in.ensures
-    ∙ four-frame s c.self.invariant c.args.t.0 c.args.at.0 f c.offset.result x c.requires.aligned c.read-number.ensures.number read c.offset.ensures)
-
-pub returns-clause-sound : goal.returns-clause-sound
-returns-clause-sound c =
-    sound _ (subst IsKept (sym c.read-number.ensures.store) (IsKept-reads c.self.inside.store _ c.self.invariant))
+    record {
+      value = rw (← c.self.view_is)
+          (c.u32_in.ensures ∙ ap (from_le_bytes w32) (four-frame s c.self.invariant c.args.t.0 c.args.at.0 f c.offset.result x c.requires.aligned c.read-number.ensures.number read c.offset.ensures));
+      bytes = rw (← c.self.view_is)
+          (le_bytes_4 (four x.bytes c.offset.result) c.u32_in.result refl small c.u32_in.ensures
+          ∙ four-frame s c.self.invariant c.args.t.0 c.args.at.0 f c.offset.result x c.requires.aligned c.read-number.ensures.number read c.offset.ensures);
+      counts = search rules;
+      sound = sound _ (subst IsKept (sym c.read-number.ensures.store) (IsKept-reads c.self.inside.store _ c.self.invariant));
+    }

@@ -1,4 +1,4 @@
-use Rattle.std.proofs.Common.{sym, ◌∙◌, ◌≡◌, ap, subst, arith, get_or, refl}
+use Rattle.std.proofs.Common.{rules, sym, ◌∙◌, ◌≡◌, ap, subst, arith, get_or, refl}
 use Rattle.std.specs.Int.{w64, from_le_bytes}
 use Rattle.cow_pages.specs.declared.store.Store.{Store}
 use Rattle.cow_pages.specs.View.{u64_at}
@@ -12,27 +12,20 @@ pub index-requires : goal.index-requires
 index-requires c =
     rw c.read-number.ensures.store (omega (arith, c.self.inside.store.pool.frames.ok, read_within c.self.inside.store c.self.invariant c.args.t.0 _ _ c.read-number.ensures.number))
 
-pub returns-clause-value : goal.returns-clause-value
+pub returns : goal.returns
 unfolding u64_at
-returns-clause-value c =
-    let s = c.self.inside.store in
-    let f = c.read-number.result in
-    let x = c.index.result.now in
-    let read : x ≡ get_or s.pool.frames.items f x = c.index.ensures ∙ ap (λ (st : Store). get_or st.pool.frames.items f x) c.read-number.ensures.store in
-    rw (← c.self.view_is)
-    (c.u64_in.ensures ∙ ap (from_le_bytes w64) (eight-frame s c.self.invariant c.args.t.0 c.args.at.0 f c.offset.result x c.requires.aligned c.read-number.ensures.number read c.offset.ensures))
-
-pub returns-clause-bytes : goal.returns-clause-bytes
-returns-clause-bytes c =
+returns c =
     let s = c.self.inside.store in
     let f = c.read-number.result in
     let x = c.index.result.now in
     let read : x ≡ get_or s.pool.frames.items f x = c.index.ensures ∙ ap (λ (st : Store). get_or st.pool.frames.items f x) c.read-number.ensures.store in
     let small = small_eight x.bytes c.offset.result (small_bytes s c.self.invariant c.args.t.0 _ f x c.read-number.ensures.number read) in
-    rw (← c.self.view_is)
-    (le_bytes_8 (eight x.bytes c.offset.result) c.u64_in.result refl small c.u64_in.ensures
-    ∙ eight-frame s c.self.invariant c.args.t.0 c.args.at.0 f c.offset.result x c.requires.aligned c.read-number.ensures.number read c.offset.ensures)
-
-pub returns-clause-sound : goal.returns-clause-sound
-returns-clause-sound c =
-    sound _ (subst IsKept (sym c.read-number.ensures.store) (IsKept-reads c.self.inside.store _ c.self.invariant))
+    record {
+      value = rw (← c.self.view_is)
+          (c.u64_in.ensures ∙ ap (from_le_bytes w64) (eight-frame s c.self.invariant c.args.t.0 c.args.at.0 f c.offset.result x c.requires.aligned c.read-number.ensures.number read c.offset.ensures));
+      bytes = rw (← c.self.view_is)
+          (le_bytes_8 (eight x.bytes c.offset.result) c.u64_in.result refl small c.u64_in.ensures
+          ∙ eight-frame s c.self.invariant c.args.t.0 c.args.at.0 f c.offset.result x c.requires.aligned c.read-number.ensures.number read c.offset.ensures);
+      counts = search rules;
+      sound = sound _ (subst IsKept (sym c.read-number.ensures.store) (IsKept-reads c.self.inside.store _ c.self.invariant));
+    }

@@ -1,4 +1,4 @@
-use Rattle.std.proofs.Common.{◌≡◌, ◌∙◌, ℕ, List, length, arith, ap, subst}
+use Rattle.std.proofs.Common.{rules, ◌≡◌, ◌∙◌, ℕ, List, length, arith, ap, subst}
 use Rattle.std.specs.Prelude.{OnOk}
 use Rattle.std.specs.Int.{w16, to_le_bytes, from_le_bytes}
 use Rattle.std.proofs.lemmas.Nat.{from_le_bytes-to_le_bytes_2}
@@ -19,26 +19,18 @@ write-requires-clause-room c = let len : length c.to_le_bytes.result ≡ 2 = ap 
 pub invariant_of-self : goal.invariant_of-self
 invariant_of-self c = c.write.ensures.kept
 
-pub returns-clause-page : goal.returns-clause-page
-returns-clause-page c =
-    let page = subst (λ (bs : List ℕ). OnOk c.write.result (WritesPage (shown c.self.inside.store) (shown c.write.new.self) c.args.t.0 c.args.at.0 bs)) c.to_le_bytes.ensures c.write.ensures.page in
-    rw (← c.self.view_is) page
-
-pub returns-clause-view : goal.returns-clause-view
-returns-clause-view c =
-    let page = subst (λ (bs : List ℕ). OnOk c.write.result (WritesPage (shown c.self.inside.store) (shown c.write.new.self) c.args.t.0 c.args.at.0 bs)) c.to_le_bytes.ensures c.write.ensures.page in
-    rw (← c.self.view_is) (on_ok_weaker _ (λ w. WritesBytes-page (shown c.self.inside.store) (shown c.write.new.self) c.args.t.0 c.args.at.0 (to_le_bytes w16 c.args.v) (sound c.self.inside.store c.self.invariant) (omega (arith, c.requires.aligned)) w) page)
-
-pub returns-clause-others_seen : goal.returns-clause-others_seen
-returns-clause-others_seen c =
-    let page = subst (λ (bs : List ℕ). OnOk c.write.result (WritesPage (shown c.self.inside.store) (shown c.write.new.self) c.args.t.0 c.args.at.0 bs)) c.to_le_bytes.ensures c.write.ensures.page in
-    rw (← c.self.view_is) (on_ok_weaker _ (λ (w : WritesPage (shown c.self.inside.store) (shown c.write.new.self) c.args.t.0 c.args.at.0 (to_le_bytes w16 c.args.v)). OthersSeen-page _ _ _ _ w.rest) page)
-
-pub returns-clause-sound : goal.returns-clause-sound
-returns-clause-sound c = sound _ c.write.ensures.kept
-
-pub returns-clause-reads_back : goal.returns-clause-reads_back
+pub returns : goal.returns
 unfolding u16_at
-returns-clause-reads_back c =
+returns c =
     let page = subst (λ (bs : List ℕ). OnOk c.write.result (WritesPage (shown c.self.inside.store) (shown c.write.new.self) c.args.t.0 c.args.at.0 bs)) c.to_le_bytes.ensures c.write.ensures.page in
-    on_ok_weaker _ (λ w. ap (from_le_bytes w16) (WritesBytes-page (shown c.self.inside.store) (shown c.write.new.self) c.args.t.0 c.args.at.0 (to_le_bytes w16 c.args.v) (sound c.self.inside.store c.self.invariant) (omega (arith, c.requires.aligned)) w).there ∙ from_le_bytes-to_le_bytes_2 c.args.v c.ranges.v.fits) page
+    record {
+      page = rw (← c.self.view_is) page;
+      view = rw (← c.self.view_is) (on_ok_weaker _ (λ w. WritesBytes-page (shown c.self.inside.store) (shown c.write.new.self) c.args.t.0 c.args.at.0 (to_le_bytes w16 c.args.v) (sound c.self.inside.store c.self.invariant) (omega (arith, c.requires.aligned)) w) page);
+      others_seen = rw (← c.self.view_is) (on_ok_weaker _ (λ (w : WritesPage (shown c.self.inside.store) (shown c.write.new.self) c.args.t.0 c.args.at.0 (to_le_bytes w16 c.args.v)). OthersSeen-page _ _ _ _ w.rest) page);
+      reads_back = on_ok_weaker _ (λ w. ap (from_le_bytes w16) (WritesBytes-page (shown c.self.inside.store) (shown c.write.new.self) c.args.t.0 c.args.at.0 (to_le_bytes w16 c.args.v) (sound c.self.inside.store c.self.invariant) (omega (arith, c.requires.aligned)) w).there ∙ from_le_bytes-to_le_bytes_2 c.args.v c.ranges.v.fits) page;
+      takes = search rules;
+      succeeds = search rules;
+      only = search rules;
+      err = search rules;
+      sound = sound _ c.write.ensures.kept;
+    }
