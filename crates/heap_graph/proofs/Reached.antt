@@ -7,8 +7,8 @@ use Rattle.class_layout.specs.Placing.{IsIn}
 use Rattle.heap_graph.specs.declared.names.Held.{Held}
 use Rattle.heap_graph.specs.declared.names.Held.TheVariants as held
 use Rattle.heap_graph.specs.declared.names.Root.{Root}
-use Rattle.heap_graph.specs.declared.names.Slot.{Slot}
-use Rattle.heap_graph.specs.declared.names.Slot.TheVariants as slot
+use Rattle.heap_graph.specs.declared.names.Content.{Content}
+use Rattle.heap_graph.specs.declared.names.Content.TheVariants as content
 use Rattle.heap_graph.specs.declared.names.Stored.{Stored}
 use Rattle.heap_graph.specs.Graph.{Object, Graph, is_immune}
 use Rattle.heap_graph.specs.Paths.{HoldsStrongly, IsNumber, IsPathTo, IsReached, IsStart, LeadsTo}
@@ -54,24 +54,24 @@ module _ {X : Type 0} where
       by false e (inr i) rest = rest i
 
 -- a slot that holds a target, and the target of a slot
-target-slot : (ss : List Stored) (n : ℕ) → is_among (targets ss) n ≡ true → (s : Stored) × IsIn s ss × (s.value ≡ slot.Object n)
+target-slot : (ss : List Stored) (n : ℕ) → is_among (targets ss) n ≡ true → (s : Stored) × IsIn s ss × (s.value ≡ content.Object n)
 target-slot [] n h = absurd (false≢true h)
 target-slot (s ∷ ss) n h = by s.value refl h (target-slot ss n)
   where
-    later : ((t : Stored) × IsIn t ss × (t.value ≡ slot.Object n)) → (t : Stored) × IsIn t (s ∷ ss) × (t.value ≡ slot.Object n)
+    later : ((t : Stored) × IsIn t ss × (t.value ≡ content.Object n)) → (t : Stored) × IsIn t (s ∷ ss) × (t.value ≡ content.Object n)
     later found = (found.0, inr found.1, found.2)
 
-    by : (v : Slot) → s.value ≡ v → is_among (with_target v (targets ss)) n ≡ true → (is_among (targets ss) n ≡ true → (t : Stored) × IsIn t ss × (t.value ≡ slot.Object n))
-        → (t : Stored) × IsIn t (s ∷ ss) × (t.value ≡ slot.Object n)
-    by (slot.Number z) e h rest = later (rest h)
-    by slot.Null e h rest = later (rest h)
-    by (slot.Object m) e h rest =
+    by : (v : Content) → s.value ≡ v → is_among (with_target v (targets ss)) n ≡ true → (is_among (targets ss) n ≡ true → (t : Stored) × IsIn t ss × (t.value ≡ content.Object n))
+        → (t : Stored) × IsIn t (s ∷ ss) × (t.value ≡ content.Object n)
+    by (content.Number z) e h rest = later (rest h)
+    by content.Null e h rest = later (rest h)
+    by (content.Object m) e h rest =
         elim (or_cases (nat_eq n m) (is_among (targets ss) n) h) [
-          | inl here ↦ (s, inl refl, e ∙ ap slot.Object (sym (eqb-true n m here)))
+          | inl here ↦ (s, inl refl, e ∙ ap content.Object (sym (eqb-true n m here)))
           | inr more ↦ later (rest more)
         ]
 
-slot-target : (ss : List Stored) (n : ℕ) (s : Stored) → IsIn s ss → s.value ≡ slot.Object n → is_among (targets ss) n ≡ true
+slot-target : (ss : List Stored) (n : ℕ) (s : Stored) → IsIn s ss → s.value ≡ content.Object n → is_among (targets ss) n ≡ true
 slot-target [] n s i h = absurd i
 slot-target (t ∷ ss) n s (inl e) h =
     ap (λ v. is_among (with_target v (targets ss)) n) (ap (λ (x : Stored). x.value) e ∙ h) ∙ or_left (nat_eq n n) (is_among (targets ss) n) (eq-eqb n n refl)

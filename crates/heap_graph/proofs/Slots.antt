@@ -2,36 +2,36 @@
 use Rattle.std.proofs.Common.{◌≡◌, ℕ, Bool, true, false, not, cond, ◌⊎◌, inl, inr, List, [], ◌∷◌, map, nat_eq, refl, ap, ◌∙◌}
 use Rattle.std.proofs.lemmas.Bool.{or_cases, or_left, or_right, eqb-true, false≢true}
 use Rattle.std.proofs.lemmas.Simd.{map-map}
-use Rattle.heap_graph.specs.declared.names.Slot.{Slot}
-use Rattle.heap_graph.specs.declared.names.Slot.TheVariants as slot
+use Rattle.heap_graph.specs.declared.names.Content.{Content}
+use Rattle.heap_graph.specs.declared.names.Content.TheVariants as content
 use Rattle.heap_graph.specs.declared.names.Stored.{Stored}
 use Rattle.heap_graph.specs.Values.{with_target, targets, strong_slots}
 use Rattle.heap_graph.specs.Collection.{if_kept, cleared_slot, clear_if, cleared_stored, cleared_slots}
 use Rattle.heap_graph.specs.Reach.{is_among}
 
 -- a slot's target stands in front of others
-target_at : (s : Slot) (ns : List ℕ) (n : ℕ) → is_among (with_target s ns) n ≡ true → (is_among (with_target s []) n ≡ true) ⊎ (is_among ns n ≡ true)
-target_at (slot.Number z) ns n h = inr h
-target_at slot.Null ns n h = inr h
-target_at (slot.Object m) ns n h =
+target_at : (s : Content) (ns : List ℕ) (n : ℕ) → is_among (with_target s ns) n ≡ true → (is_among (with_target s []) n ≡ true) ⊎ (is_among ns n ≡ true)
+target_at (content.Number z) ns n h = inr h
+target_at content.Null ns n h = inr h
+target_at (content.Object m) ns n h =
     elim (or_cases (nat_eq n m) (is_among ns n) h) [
       | inl here ↦ inl (or_left (nat_eq n m) false here)
       | inr later ↦ inr later
     ]
 
-target_here : (s : Slot) (ns : List ℕ) (n : ℕ) → is_among (with_target s []) n ≡ true → is_among (with_target s ns) n ≡ true
-target_here (slot.Number z) ns n h = absurd (false≢true h)
-target_here slot.Null ns n h = absurd (false≢true h)
-target_here (slot.Object m) ns n h =
+target_here : (s : Content) (ns : List ℕ) (n : ℕ) → is_among (with_target s []) n ≡ true → is_among (with_target s ns) n ≡ true
+target_here (content.Number z) ns n h = absurd (false≢true h)
+target_here content.Null ns n h = absurd (false≢true h)
+target_here (content.Object m) ns n h =
     elim (or_cases (nat_eq n m) false h) [
       | inl here ↦ or_left (nat_eq n m) (is_among ns n) here
       | inr wrong ↦ absurd (false≢true wrong)
     ]
 
-pub target_later : (s : Slot) (ns : List ℕ) (n : ℕ) → is_among ns n ≡ true → is_among (with_target s ns) n ≡ true
-target_later (slot.Number z) ns n h = h
-target_later slot.Null ns n h = h
-target_later (slot.Object m) ns n h = or_right (nat_eq n m) (is_among ns n) h
+pub target_later : (s : Content) (ns : List ℕ) (n : ℕ) → is_among ns n ≡ true → is_among (with_target s ns) n ≡ true
+target_later (content.Number z) ns n h = h
+target_later content.Null ns n h = h
+target_later (content.Object m) ns n h = or_right (nat_eq n m) (is_among ns n) h
 
 -- a target of a strong slot is a target
 pub strong_is_target : (ss : List Stored) (n : ℕ) → is_among (targets (strong_slots ss)) n ≡ true → is_among (targets ss) n ≡ true
@@ -47,10 +47,10 @@ strong_is_target (s ∷ ss) n h = by s.at.weak h (strong_is_target ss n)
         ]
 
 -- a slot holds what is kept, once it is cleared
-cleared_target : (kept : List ℕ) (s : Slot) (n : ℕ) → is_among (with_target (cleared_slot kept s) []) n ≡ true → is_among kept n ≡ true
-cleared_target kept (slot.Number z) n h = absurd (false≢true h)
-cleared_target kept slot.Null n h = absurd (false≢true h)
-cleared_target kept (slot.Object m) n h = by (is_among kept m) refl h
+cleared_target : (kept : List ℕ) (s : Content) (n : ℕ) → is_among (with_target (cleared_slot kept s) []) n ≡ true → is_among kept n ≡ true
+cleared_target kept (content.Number z) n h = absurd (false≢true h)
+cleared_target kept content.Null n h = absurd (false≢true h)
+cleared_target kept (content.Object m) n h = by (is_among kept m) refl h
   where
     by : (b : Bool) → is_among kept m ≡ b → is_among (with_target (if_kept b m) []) n ≡ true → is_among kept n ≡ true
     by true e h =
@@ -94,10 +94,10 @@ strong-cleared kept (s ∷ ss) =
     ]
 
 -- clearing twice is clearing once
-cleared_slot-twice : (kept : List ℕ) (s : Slot) → cleared_slot kept (cleared_slot kept s) ≡ cleared_slot kept s
-cleared_slot-twice kept (slot.Number z) = refl
-cleared_slot-twice kept slot.Null = refl
-cleared_slot-twice kept (slot.Object n) = by (is_among kept n) refl
+cleared_slot-twice : (kept : List ℕ) (s : Content) → cleared_slot kept (cleared_slot kept s) ≡ cleared_slot kept s
+cleared_slot-twice kept (content.Number z) = refl
+cleared_slot-twice kept content.Null = refl
+cleared_slot-twice kept (content.Object n) = by (is_among kept n) refl
   where
     by : (b : Bool) → is_among kept n ≡ b → cleared_slot kept (if_kept b n) ≡ if_kept b n
     by true e = ap (λ b. if_kept b n) e
@@ -105,7 +105,7 @@ cleared_slot-twice kept (slot.Object n) = by (is_among kept n) refl
 
 cleared_stored-twice : (kept : List ℕ) (s : Stored) → cleared_stored kept (cleared_stored kept s) ≡ cleared_stored kept s
 cleared_stored-twice kept s =
-    let at_value : Slot → Stored = λ value. record { at = s.at; value = value } in
+    let at_value : Content → Stored = λ value. record { at = s.at; value = value } in
     elim s.at.weak as (λ weak. at_value (clear_if weak kept (clear_if weak kept s.value)) ≡ at_value (clear_if weak kept s.value)) [
       | true ↦ ap at_value (cleared_slot-twice kept s.value)
       | false ↦ refl

@@ -1,7 +1,7 @@
 -- What a collection keeps, and what it clears.
 use Rattle.std.specs.Prelude.{ℕ, ◌-◌, Bool, true, false, ◌||◌, not, List, map, filter, length, count_by}
-use Rattle.heap_graph.specs.declared.names.Slot.{Slot}
-use Rattle.heap_graph.specs.declared.names.Slot.TheVariants as slot
+use Rattle.heap_graph.specs.declared.names.Content.{Content}
+use Rattle.heap_graph.specs.declared.names.Content.TheVariants as content
 use Rattle.heap_graph.specs.declared.names.Stored.{Stored}
 use Rattle.heap_graph.specs.Graph.{Object, Graph, is_immune}
 use Rattle.heap_graph.specs.Reach.{is_among, reached}
@@ -11,17 +11,17 @@ abbrev pub is_kept : Bool → List ℕ → Object → Bool
 is_kept sealed seen o = is_immune sealed o.place || is_among seen o.number
 
 -- a reference becomes null where its target isn't kept
-abbrev pub if_kept : Bool → ℕ → Slot
-if_kept true n = slot.Object n
-if_kept false n = slot.Null
+abbrev pub if_kept : Bool → ℕ → Content
+if_kept true n = content.Object n
+if_kept false n = content.Null
 
-abbrev pub cleared_slot : List ℕ → Slot → Slot
-cleared_slot kept (slot.Number z) = slot.Number z
-cleared_slot kept slot.Null = slot.Null
-cleared_slot kept (slot.Object n) = if_kept (is_among kept n) n
+abbrev pub cleared_slot : List ℕ → Content → Content
+cleared_slot kept (content.Number z) = content.Number z
+cleared_slot kept content.Null = content.Null
+cleared_slot kept (content.Object n) = if_kept (is_among kept n) n
 
 -- a weak slot is cleared, a strong one stays
-abbrev pub clear_if : Bool → List ℕ → Slot → Slot
+abbrev pub clear_if : Bool → List ℕ → Content → Content
 clear_if true kept s = cleared_slot kept s
 clear_if false kept s = s
 

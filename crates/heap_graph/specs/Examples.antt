@@ -8,7 +8,7 @@ use Rattle.heap_graph.specs.declared.names.Shape.TheVariants.{Array}
 use Rattle.heap_graph.specs.declared.names.Place.TheVariants.{Young}
 use Rattle.heap_graph.specs.declared.names.Stored.{Stored}
 use Rattle.heap_graph.specs.declared.names.Root.{Root}
-use Rattle.heap_graph.specs.declared.names.Slot.{Slot}
+use Rattle.heap_graph.specs.declared.names.Content.{Content}
 use Rattle.heap_graph.specs.declared.names.Held.TheVariants as held
 use Rattle.heap_graph.specs.Graph.{Object, Graph}
 
@@ -42,5 +42,5 @@ roots_from number zero = []
 roots_from number (suc count) = root_to ((96 + number) ∷ []) number ∷ roots_from (number + 1) count
 
 -- the one slot of an object: strong or weak, at offset 8
-abbrev pub only_slot : Kind → Bool → Slot → List Stored
+abbrev pub only_slot : Kind → Bool → Content → List Stored
 only_slot kind weak value = record { at = record { kind = kind; offset = 8; weak = weak }; value = value } ∷ []

@@ -7,7 +7,7 @@ use Rattle.class_layout.specs.Placing.{IsIn}
 use Rattle.heap_graph.specs.declared.names.Held.TheVariants as held
 use Rattle.heap_graph.specs.declared.names.Root.{Root}
 use Rattle.heap_graph.specs.declared.names.Shape.{Shape}
-use Rattle.heap_graph.specs.declared.names.Slot.TheVariants as slot
+use Rattle.heap_graph.specs.declared.names.Content.TheVariants as content
 use Rattle.heap_graph.specs.declared.names.Stored.{Stored}
 use Rattle.heap_graph.specs.Graph.{Object, Graph, is_immune}
 use Rattle.heap_graph.specs.Reach.{Node, is_among, held_by}
@@ -33,7 +33,7 @@ IsRooted g n = (r : Root) × IsIn r g.roots × (r.holds ≡ held.Object n)
 
 -- a strong slot of the object holds the object of the number
 abbrev pub HoldsStrongly : Object → ℕ → Type 0
-HoldsStrongly o n = (s : Stored) × IsIn s o.slots × (s.at.weak ≡ false) × (s.value ≡ slot.Object n)
+HoldsStrongly o n = (s : Stored) × IsIn s o.slots × (s.at.weak ≡ false) × (s.value ≡ content.Object n)
 
 -- a root holds the object of the number, or a strong slot of an immune object does
 abbrev pub IsStart : Graph → ℕ → Type 0

@@ -2,23 +2,23 @@
 use Rattle.std.specs.Prelude.{ℕ, Bool, true, false, not, List, [], ◌∷◌, filter, pos, nat_eq}
 use Rattle.class_layout.specs.declared.kind.FieldAt.{FieldAt}
 use Rattle.class_layout.specs.Kinds.{is_ref}
-use Rattle.heap_graph.specs.declared.names.Slot.{Slot}
-use Rattle.heap_graph.specs.declared.names.Slot.TheVariants as slot
+use Rattle.heap_graph.specs.declared.names.Content.{Content}
+use Rattle.heap_graph.specs.declared.names.Content.TheVariants as content
 use Rattle.heap_graph.specs.declared.names.Held.{Held}
 use Rattle.heap_graph.specs.declared.names.Held.TheVariants as held
 use Rattle.heap_graph.specs.declared.names.Stored.{Stored}
 
 -- what a field or element holds before anything is stored: null, or 0
-abbrev pub empty_slot : Bool → Slot
-empty_slot true = slot.Null
-empty_slot false = slot.Number (pos 0)
+abbrev pub empty_slot : Bool → Content
+empty_slot true = content.Null
+empty_slot false = content.Number (pos 0)
 
 -- what a slot holds, given what was stored
-abbrev pub value_if : Bool → Slot → Slot → Slot
+abbrev pub value_if : Bool → Content → Content → Content
 value_if true here later = here
 value_if false here later = later
 
-abbrev pub value_at : List Stored → FieldAt → Slot
+abbrev pub value_at : List Stored → FieldAt → Content
 value_at [] at = empty_slot (is_ref at.kind)
 value_at (s ∷ ss) at = value_if (nat_eq s.at.offset at.offset) s.value (value_at ss at)
 
@@ -32,21 +32,21 @@ with_stored [] new = new ∷ []
 with_stored (s ∷ ss) new = stored_if (nat_eq s.at.offset new.at.offset) new ss (with_stored ss new) s
 
 -- a root's reference as a slot
-abbrev pub slot_of : Held → Slot
-slot_of held.Null = slot.Null
-slot_of (held.Object n) = slot.Object n
+abbrev pub slot_of : Held → Content
+slot_of held.Null = content.Null
+slot_of (held.Object n) = content.Object n
 
 -- a slot's reference; a number is none
-abbrev pub held_of : Slot → Held
-held_of (slot.Number z) = held.Null
-held_of slot.Null = held.Null
-held_of (slot.Object n) = held.Object n
+abbrev pub held_of : Content → Held
+held_of (content.Number z) = held.Null
+held_of content.Null = held.Null
+held_of (content.Object n) = held.Object n
 
 -- the object that a slot holds, in front of others
-abbrev pub with_target : Slot → List ℕ → List ℕ
-with_target (slot.Number z) ns = ns
-with_target slot.Null ns = ns
-with_target (slot.Object n) ns = n ∷ ns
+abbrev pub with_target : Content → List ℕ → List ℕ
+with_target (content.Number z) ns = ns
+with_target content.Null ns = ns
+with_target (content.Object n) ns = n ∷ ns
 
 -- the objects that slots hold, in order
 abbrev pub targets : List Stored → List ℕ

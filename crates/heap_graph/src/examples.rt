@@ -3,7 +3,7 @@ ghost use Rattle.std.specs.Prelude.{◌≡◌, ◌++◌, ◌∷◌, [], true, fa
 ghost use Rattle.class_layout.specs.declared.kind.Kind.{Kind};
 ghost use Rattle.heap_graph.specs.declared.names.Place.{Place};
 ghost use Rattle.heap_graph.specs.declared.names.Shape.{Shape};
-ghost use Rattle.heap_graph.specs.declared.names.Slot.{Slot};
+ghost use Rattle.heap_graph.specs.declared.names.Content.{Content};
 ghost use Rattle.heap_graph.specs.Allocation.{HeapFull, Made, make};
 ghost use Rattle.heap_graph.specs.Collection.{collect};
 ghost use Rattle.heap_graph.specs.Examples.{arrays, example, only_slot, root_to, roots_from, young};
@@ -11,14 +11,14 @@ ghost use Rattle.heap_graph.specs.Fork.{promoted};
 ghost use Rattle.heap_graph.specs.Packing.{costs, free, used};
 
 fn unreached_ring()
-    ensures { collect (example 3 [] (young 1 (Shape.Instance 2) (only_slot Kind.Ref false (Slot.Object 2)) ∷ young 2 (Shape.Instance 2) (only_slot Kind.Ref false (Slot.Object 1)) ∷ []))
+    ensures { collect (example 3 [] (young 1 (Shape.Instance 2) (only_slot Kind.Ref false (Content.Object 2)) ∷ young 2 (Shape.Instance 2) (only_slot Kind.Ref false (Content.Object 1)) ∷ []))
         ≡ example 3 [] [] }
 {}
 
 fn weak_slot()
-    ensures cleared { collect (example 3 (root_to (codes "r") 1 ∷ []) (young 1 (Shape.Instance 1) (only_slot Kind.Ref true (Slot.Object 2)) ∷ young 2 (Shape.Instance 3) (only_slot Kind.Int false (Slot.Number (pos 7))) ∷ []))
-        ≡ example 3 (root_to (codes "r") 1 ∷ []) (young 1 (Shape.Instance 1) (only_slot Kind.Ref true Slot.Null) ∷ []) }
-    ensures kept { let g = example 3 (root_to (codes "r") 1 ∷ root_to (codes "s") 2 ∷ []) (young 1 (Shape.Instance 1) (only_slot Kind.Ref true (Slot.Object 2)) ∷ young 2 (Shape.Instance 3) (only_slot Kind.Int false (Slot.Number (pos 7))) ∷ []) in
+    ensures cleared { collect (example 3 (root_to (codes "r") 1 ∷ []) (young 1 (Shape.Instance 1) (only_slot Kind.Ref true (Content.Object 2)) ∷ young 2 (Shape.Instance 3) (only_slot Kind.Int false (Content.Number (pos 7))) ∷ []))
+        ≡ example 3 (root_to (codes "r") 1 ∷ []) (young 1 (Shape.Instance 1) (only_slot Kind.Ref true Content.Null) ∷ []) }
+    ensures kept { let g = example 3 (root_to (codes "r") 1 ∷ root_to (codes "s") 2 ∷ []) (young 1 (Shape.Instance 1) (only_slot Kind.Ref true (Content.Object 2)) ∷ young 2 (Shape.Instance 3) (only_slot Kind.Int false (Content.Number (pos 7))) ∷ []) in
         collect g ≡ g }
 {}
 
@@ -41,8 +41,8 @@ fn large_array()
 {}
 
 fn promotion()
-    ensures first { promoted (example 2 [] (young 1 (Shape.Instance 3) (only_slot Kind.Int false (Slot.Number (pos 7))) ∷ []))
-        ≡ example 2 [] (record { number = 1; shape = Shape.Instance 3; slots = only_slot Kind.Int false (Slot.Number (pos 7)); place = Place.Zygote 0x3000_0000 } ∷ []) }
-    ensures second { promoted (example 3 [] (record { number = 1; shape = Shape.Instance 3; slots = only_slot Kind.Int false (Slot.Number (pos 7)); place = Place.Zygote 0x3000_0000 } ∷ young 2 (Shape.Instance 3) (only_slot Kind.Int false (Slot.Number (pos 8))) ∷ []))
-        ≡ example 3 [] (record { number = 1; shape = Shape.Instance 3; slots = only_slot Kind.Int false (Slot.Number (pos 7)); place = Place.Zygote 0x3000_0000 } ∷ record { number = 2; shape = Shape.Instance 3; slots = only_slot Kind.Int false (Slot.Number (pos 8)); place = Place.Zygote 0x3000_1000 } ∷ []) }
+    ensures first { promoted (example 2 [] (young 1 (Shape.Instance 3) (only_slot Kind.Int false (Content.Number (pos 7))) ∷ []))
+        ≡ example 2 [] (record { number = 1; shape = Shape.Instance 3; slots = only_slot Kind.Int false (Content.Number (pos 7)); place = Place.Zygote 0x3000_0000 } ∷ []) }
+    ensures second { promoted (example 3 [] (record { number = 1; shape = Shape.Instance 3; slots = only_slot Kind.Int false (Content.Number (pos 7)); place = Place.Zygote 0x3000_0000 } ∷ young 2 (Shape.Instance 3) (only_slot Kind.Int false (Content.Number (pos 8))) ∷ []))
+        ≡ example 3 [] (record { number = 1; shape = Shape.Instance 3; slots = only_slot Kind.Int false (Content.Number (pos 7)); place = Place.Zygote 0x3000_0000 } ∷ record { number = 2; shape = Shape.Instance 3; slots = only_slot Kind.Int false (Content.Number (pos 8)); place = Place.Zygote 0x3000_1000 } ∷ []) }
 {}

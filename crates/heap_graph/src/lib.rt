@@ -11,4 +11,4 @@ pub use laws::{
     collecting_uses_no_more, kept_is_immune_or_reached, places_are_packed, reaching_is_a_path,
     young_objects_are_packed,
 };
-pub use names::{Held, Place, Root, Shape, Slot, Stored};
+pub use names::{Content, Held, Place, Root, Shape, Stored};

@@ -24,7 +24,7 @@ pub enum Place {
 
 /// What a field or an element holds: a number, nothing, or an object by its allocation number.
 #[derive(Clone, Copy, Debug, PartialEq, Eq)]
-pub enum Slot {
+pub enum Content {
     Number(i64),
     Null,
     Object(u32),
@@ -41,7 +41,7 @@ pub enum Held {
 #[derive(Clone, Copy, Debug, PartialEq, Eq)]
 pub struct Stored {
     pub at: FieldAt,
-    pub value: Slot,
+    pub value: Content,
 }
 
 /// A root: its name, and what it holds.

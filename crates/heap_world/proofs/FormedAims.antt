@@ -6,8 +6,8 @@ use Rattle.std.proofs.lemmas.List.Folds.{list_any-append}
 use Rattle.class_layout.specs.Names.{same_name}
 use Rattle.heap_graph.specs.declared.names.Held.{Held}
 use Rattle.heap_graph.specs.declared.names.Root.{Root}
-use Rattle.heap_graph.specs.declared.names.Slot.{Slot}
-use Rattle.heap_graph.specs.declared.names.Slot.TheVariants as slot
+use Rattle.heap_graph.specs.declared.names.Content.{Content}
+use Rattle.heap_graph.specs.declared.names.Content.TheVariants as content
 use Rattle.heap_graph.specs.declared.names.Stored.{Stored}
 use Rattle.heap_graph.specs.Graph.{Graph, Object, write_first, write_root, drop_root}
 use Rattle.heap_graph.specs.Paths.{IsClosed, numbers}
@@ -15,10 +15,10 @@ use Rattle.heap_graph.specs.Reach.{is_among}
 use Rattle.heap_graph.specs.Values.{slot_of, with_target, targets, held_targets}
 
 -- the object that a slot holds has one of the numbers
-abbrev pub Aims : List ℕ → Slot → Type 0
-Aims ns (slot.Number z) = Unit {0}
-Aims ns slot.Null = Unit {0}
-Aims ns (slot.Object n) = is_among ns n ≡ true
+abbrev pub Aims : List ℕ → Content → Type 0
+Aims ns (content.Number z) = Unit {0}
+Aims ns content.Null = Unit {0}
+Aims ns (content.Object n) = is_among ns n ≡ true
 
 -- the same for each root, each slot of an object, and each slot of objects
 abbrev pub RootsAim : List ℕ → List Root → Type 0
@@ -38,16 +38,16 @@ abbrev pub AreIn : List ℕ → List ℕ → Type 0
 AreIn ms ns = (n : ℕ) → is_among ms n ≡ true → is_among ns n ≡ true
 
 -- from a slot's target in front of others, and to it
-aims_first : (ns : List ℕ) (v : Slot) (ms : List ℕ) → AreIn (with_target v ms) ns → Aims ns v × AreIn ms ns
-aims_first ns (slot.Number z) ms h = (tt, h)
-aims_first ns slot.Null ms h = (tt, h)
-aims_first ns (slot.Object m) ms h =
+aims_first : (ns : List ℕ) (v : Content) (ms : List ℕ) → AreIn (with_target v ms) ns → Aims ns v × AreIn ms ns
+aims_first ns (content.Number z) ms h = (tt, h)
+aims_first ns content.Null ms h = (tt, h)
+aims_first ns (content.Object m) ms h =
     (h m (or_left (nat_eq m m) (is_among ms m) (eq-eqb m m refl)), λ n e. h n (or_right (nat_eq n m) (is_among ms n) e))
 
-aims_before : (ns : List ℕ) (v : Slot) (ms : List ℕ) → Aims ns v → AreIn ms ns → AreIn (with_target v ms) ns
-aims_before ns (slot.Number z) ms a h = h
-aims_before ns slot.Null ms a h = h
-aims_before ns (slot.Object m) ms a h = λ n e.
+aims_before : (ns : List ℕ) (v : Content) (ms : List ℕ) → Aims ns v → AreIn ms ns → AreIn (with_target v ms) ns
+aims_before ns (content.Number z) ms a h = h
+aims_before ns content.Null ms a h = h
+aims_before ns (content.Object m) ms a h = λ n e.
     elim (or_cases (nat_eq n m) (is_among ms n) e) [
       | inl here ↦ ap (is_among ns) (eqb-true n m here) ∙ a
       | inr later ↦ h n later
@@ -105,10 +105,10 @@ closed_from g roots objects = record { roots = roots_in (numbers g.objects) g.ro
 
 module _ (ms ns : List ℕ) (more : AreIn ms ns) where
   -- among more numbers
-  aims-more : (v : Slot) → Aims ms v → Aims ns v
-  aims-more (slot.Number z) a = tt
-  aims-more slot.Null a = tt
-  aims-more (slot.Object n) a = more n a
+  aims-more : (v : Content) → Aims ms v → Aims ns v
+  aims-more (content.Number z) a = tt
+  aims-more content.Null a = tt
+  aims-more (content.Object n) a = more n a
 
   -- the same for each root, slot and object
   pub roots_aim-more : (rs : List Root) → RootsAim ms rs → RootsAim ns rs

@@ -13,8 +13,8 @@ use Rattle.class_layout.specs.Layout.{field_named}
 use Rattle.class_layout.specs.Names.{same_name}
 use Rattle.heap_graph.specs.declared.names.Shape.{Shape}
 use Rattle.heap_graph.specs.declared.names.Shape.TheVariants.{Instance, Array}
-use Rattle.heap_graph.specs.declared.names.Slot.{Slot}
-use Rattle.heap_graph.specs.declared.names.Slot.TheVariants as slot
+use Rattle.heap_graph.specs.declared.names.Content.{Content}
+use Rattle.heap_graph.specs.declared.names.Content.TheVariants as content
 use Rattle.heap_graph.specs.declared.names.Held.{Held}
 use Rattle.heap_graph.specs.declared.names.Held.TheVariants as held
 use Rattle.heap_graph.specs.declared.names.Root.{Root}
@@ -82,10 +82,10 @@ module _ (ns : List ℕ) where
       by false rest = rest
 
   -- and the reference in it
-  slot-held : (v : Slot) → Aims ns v → Aims ns (slot_of (held_of v))
-  slot-held (slot.Number z) a = tt
-  slot-held slot.Null a = tt
-  slot-held (slot.Object n) a = a
+  slot-held : (v : Content) → Aims ns v → Aims ns (slot_of (held_of v))
+  slot-held (content.Number z) a = tt
+  slot-held content.Null a = tt
+  slot-held (content.Object n) a = a
 
   -- what a load takes from it
   pub loaded-aims : (o : Object) (at : FieldAt) → SlotsAim ns o.slots → IfOk (only_reference (is_ref at.kind) (held_of (value_at o.slots at))) (λ h. Aims ns (slot_of h))

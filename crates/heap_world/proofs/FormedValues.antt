@@ -10,8 +10,8 @@ use Rattle.class_layout.specs.Names.{same_name}
 use Rattle.heap_graph.specs.declared.names.Held.{Held}
 use Rattle.heap_graph.specs.declared.names.Held.TheVariants as held
 use Rattle.heap_graph.specs.declared.names.Root.{Root}
-use Rattle.heap_graph.specs.declared.names.Slot.{Slot}
-use Rattle.heap_graph.specs.declared.names.Slot.TheVariants as slot
+use Rattle.heap_graph.specs.declared.names.Content.{Content}
+use Rattle.heap_graph.specs.declared.names.Content.TheVariants as content
 use Rattle.heap_graph.specs.declared.names.Stored.{Stored}
 use Rattle.heap_graph.specs.Collection.{clear_if, cleared, cleared_slots, if_kept}
 use Rattle.heap_graph.specs.Fork.{next_spot, promoted_from}
@@ -66,11 +66,11 @@ abbrev pub AreValues : List Stored → Type 0
 AreValues ss = AllByRecursion (λ s. FitsKind s.at.kind s.value) ss
 
 -- a cleared slot fits
-fits-cleared : (k : Kind) (weak : Bool) (kept : List ℕ) (v : Slot) → FitsKind k v → FitsKind k (clear_if weak kept v)
+fits-cleared : (k : Kind) (weak : Bool) (kept : List ℕ) (v : Content) → FitsKind k v → FitsKind k (clear_if weak kept v)
 fits-cleared k false kept v h = h
-fits-cleared k true kept (slot.Number z) h = h
-fits-cleared k true kept slot.Null h = h
-fits-cleared k true kept (slot.Object n) h = by (is_among kept n)
+fits-cleared k true kept (content.Number z) h = h
+fits-cleared k true kept content.Null h = h
+fits-cleared k true kept (content.Object n) h = by (is_among kept n)
   where
     by : (b : Bool) → FitsKind k (if_kept b n)
     by true = h

@@ -5,8 +5,8 @@ use Rattle.std.proofs.lemmas.Bool.{eqb-true, eq-eqb, or_cases, or_left, or_parts
 use Rattle.std.proofs.lemmas.Grind.{flat_map-append}
 use Rattle.std.proofs.lemmas.Option.{same_Some}
 use Rattle.heap_graph.specs.declared.names.Place.{Place}
-use Rattle.heap_graph.specs.declared.names.Slot.{Slot}
-use Rattle.heap_graph.specs.declared.names.Slot.TheVariants as slot
+use Rattle.heap_graph.specs.declared.names.Content.{Content}
+use Rattle.heap_graph.specs.declared.names.Content.TheVariants as content
 use Rattle.heap_graph.specs.declared.names.Stored.{Stored}
 use Rattle.heap_graph.specs.Collection.{clear_if, cleared, cleared_slots, collect, if_kept, is_kept}
 use Rattle.heap_graph.specs.Graph.{Graph, Object, is_immune, object_at}
@@ -97,16 +97,16 @@ module _ (P : Card → Type 0) where
       (objects-fewer g h sealed os less.1 (all-right P here later all))
 
   -- where no slot is outward, no card has one
-  slots-none : (g : Graph) (at : Place) (ss : List Stored) → ((v : Slot) → is_outward g v ≡ false) → AllByRecursion P (slot_cards g at ss)
+  slots-none : (g : Graph) (at : Place) (ss : List Stored) → ((v : Content) → is_outward g v ≡ false) → AllByRecursion P (slot_cards g at ss)
   slots-none g at [] none = tt
   slots-none g at (s ∷ ss) none =
       all-join P (cards_if (is_outward g s.value) at s.at.offset) (slot_cards g at ss) (subst (λ b. AllByRecursion P (cards_if b at s.at.offset)) (sym (none s.value)) tt) (slots-none g at ss none)
 
-  object-none : (g : Graph) (immune : Bool) (o : Object) → ((v : Slot) → is_outward g v ≡ false) → AllByRecursion P (object_cards g immune o)
+  object-none : (g : Graph) (immune : Bool) (o : Object) → ((v : Content) → is_outward g v ≡ false) → AllByRecursion P (object_cards g immune o)
   object-none g true o none = slots-none g o.place o.slots none
   object-none g false o none = tt
 
-  objects-none : (g : Graph) (sealed : Bool) (os : List Object) → ((v : Slot) → is_outward g v ≡ false) → AllByRecursion P (flat_map (λ o. object_cards g (is_immune sealed o.place) o) os)
+  objects-none : (g : Graph) (sealed : Bool) (os : List Object) → ((v : Content) → is_outward g v ≡ false) → AllByRecursion P (flat_map (λ o. object_cards g (is_immune sealed o.place) o) os)
   objects-none g sealed [] none = tt
   objects-none g sealed (o ∷ os) none =
       all-join P (object_cards g (is_immune sealed o.place) o) (flat_map (λ o. object_cards g (is_immune sealed o.place) o) os) (object-none g (is_immune sealed o.place) o none) (objects-none g sealed os none)
@@ -127,10 +127,10 @@ module _ (P : Card → Type 0) where
       by true rest = ap not h.0
       by false rest = rest
 
-  none-outward : (g : Graph) → AllByRecursion (λ o. is_immune g.sealed o.place ≡ true) g.objects → (v : Slot) → is_outward g v ≡ false
-  none-outward g h (slot.Number z) = refl
-  none-outward g h slot.Null = refl
-  none-outward g h (slot.Object n) = found-immune g.sealed g.objects n h
+  none-outward : (g : Graph) → AllByRecursion (λ o. is_immune g.sealed o.place ≡ true) g.objects → (v : Content) → is_outward g v ≡ false
+  none-outward g h (content.Number z) = refl
+  none-outward g h content.Null = refl
+  none-outward g h (content.Object n) = found-immune g.sealed g.objects n h
 
   pub all-immune : (g : Graph) → AllByRecursion (λ o. is_immune g.sealed o.place ≡ true) g.objects → AllByRecursion P (outward_cards g)
   all-immune g h = objects-none g g.sealed g.objects (none-outward g h)
@@ -155,10 +155,10 @@ find-push (x ∷ os) o n h = by (nat_eq x.number n) refl (find-push os o n)
 
 module _ (P : Card → Type 0) (g h : Graph) (made : Object) (objects : h.objects ≡ g.objects ++ made ∷ []) (sealed : h.sealed ≡ g.sealed) where
   -- with one more object, what was there is outward as before
-  value-pushed : (v : Slot) → Aims (numbers g.objects) v → is_outward h v ≡ true → is_outward g v ≡ true
-  value-pushed (slot.Number z) there e = e
-  value-pushed slot.Null there e = e
-  value-pushed (slot.Object n) there e =
+  value-pushed : (v : Content) → Aims (numbers g.objects) v → is_outward h v ≡ true → is_outward g v ≡ true
+  value-pushed (content.Number z) there e = e
+  value-pushed content.Null there e = e
+  value-pushed (content.Object n) there e =
       sym (ap (λ os. loose_if (find (λ x. nat_eq x.number n) os) h.sealed) objects ∙ ap (λ o. loose_if o h.sealed) (find-push g.objects made n there) ∙ ap (loose_if (object_at g n)) sealed) ∙ e
 
   slots-pushed : (ss : List Stored) → SlotsAim (numbers g.objects) ss → AllByRecursion (Outward g h) ss
@@ -215,25 +215,25 @@ module _ (P : Card → Type 0) (g : Graph) where
   kept = numbers (filter keep g.objects)
 
   -- a slot that is outward after it was so before
-  object-cleared : (n : ℕ) → is_outward (collect g) (slot.Object n) ≡ true → is_outward g (slot.Object n) ≡ true
+  object-cleared : (n : ℕ) → is_outward (collect g) (content.Object n) ≡ true → is_outward g (content.Object n) ≡ true
   object-cleared n h = loose-before kept g.objects n h
 
-  value-cleared : (weak : Bool) (v : Slot) → is_outward (collect g) (clear_if weak kept v) ≡ true → is_outward g v ≡ true
-  value-cleared false (slot.Number z) h = h
-  value-cleared false slot.Null h = h
-  value-cleared false (slot.Object n) h = object-cleared n h
-  value-cleared true (slot.Number z) h = h
-  value-cleared true slot.Null h = h
-  value-cleared true (slot.Object n) h = by (is_among kept n) h
+  value-cleared : (weak : Bool) (v : Content) → is_outward (collect g) (clear_if weak kept v) ≡ true → is_outward g v ≡ true
+  value-cleared false (content.Number z) h = h
+  value-cleared false content.Null h = h
+  value-cleared false (content.Object n) h = object-cleared n h
+  value-cleared true (content.Number z) h = h
+  value-cleared true content.Null h = h
+  value-cleared true (content.Object n) h = by (is_among kept n) h
     where
-      by : (b : Bool) → is_outward (collect g) (if_kept b n) ≡ true → is_outward g (slot.Object n) ≡ true
+      by : (b : Bool) → is_outward (collect g) (if_kept b n) ≡ true → is_outward g (content.Object n) ≡ true
       by true h = object-cleared n h
       by false h = absurd (true≢false (sym h))
 
   slots-collected : (at : Place) (ss : List Stored) → AllByRecursion P (slot_cards g at ss) → AllByRecursion P (slot_cards (collect g) at (cleared_slots kept ss))
   slots-collected at [] all = tt
   slots-collected at (s ∷ ss) all =
-      let after : Slot = clear_if s.at.weak kept s.value in
+      let after : Content = clear_if s.at.weak kept s.value in
       let here = cards_if (is_outward g s.value) at s.at.offset in
       all-join P (cards_if (is_outward (collect g) after) at s.at.offset) (slot_cards (collect g) at (cleared_slots kept ss))
       (one-fewer P (is_outward g s.value) (is_outward (collect g) after) at s.at.offset (value-cleared s.at.weak s.value) (all-left P here (slot_cards g at ss) all))
@@ -289,10 +289,10 @@ module _ (P Q : Card → Type 0) (more : (c : Card) → P c → Q c) (g : Graph)
       by true c rest = found true (nat_eq x.number m) rest
       by false c rest = found false (nat_eq x.number m) rest
 
-  value-stored : (v : Slot) → is_outward after v ≡ true → is_outward g v ≡ true
-  value-stored (slot.Number z) e = e
-  value-stored slot.Null e = e
-  value-stored (slot.Object m) e = sym (loose-stored g.objects m) ∙ e
+  value-stored : (v : Content) → is_outward after v ≡ true → is_outward g v ≡ true
+  value-stored (content.Number z) e = e
+  value-stored content.Null e = e
+  value-stored (content.Object m) e = sym (loose-stored g.objects m) ∙ e
 
   -- slots and objects that stay
   slots-stay : (at : Place) (ss : List Stored) → AllByRecursion P (slot_cards g at ss) → AllByRecursion Q (slot_cards after at ss)

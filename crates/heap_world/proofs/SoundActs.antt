@@ -12,7 +12,7 @@ use Rattle.heap_graph.specs.declared.names.Place.{Place}
 use Rattle.heap_graph.specs.declared.names.Place.TheVariants as place
 use Rattle.heap_graph.specs.declared.names.Shape.{Shape}
 use Rattle.heap_graph.specs.declared.names.Shape.TheVariants.{Instance, Array}
-use Rattle.heap_graph.specs.declared.names.Slot.{Slot}
+use Rattle.heap_graph.specs.declared.names.Content.{Content}
 use Rattle.heap_graph.specs.declared.names.Stored.{Stored}
 use Rattle.heap_graph.specs.Allocation.{Allocated, has_room, heap_place, make, make_by, make_if, make_if_collected, make_in_image}
 use Rattle.heap_graph.specs.Allocation as allocated
@@ -27,14 +27,14 @@ use Rattle.heap_world.specs.declared.reply.Refusal.{Refusal}
 use Rattle.heap_world.specs.Acts.{act, after_define, after_make, copy_root, drop_held, fork_by, fork_collected, gc_if, get_element, get_field, load_element, load_field, load_slot, make_numbered, make_shape, make_sized, make_slots, make_weak, new_of_class, part_after, put_element, referent_at, root_written, seal_if, set_field, show_root, store, dump_counted, dump_if}
 use Rattle.heap_world.specs.Effect.{Effect, effect_or}
 use Rattle.heap_world.specs.Formed.{IsFormed, FitsKind, HasFewFields, HasSlot, is_in_image}
-use Rattle.heap_world.specs.Part.{Part, first_part, is_noted, with_collected}
+use Rattle.heap_world.specs.Part.{Part, first_part, with_collected}
 use Rattle.heap_world.specs.Slots.{◌>>=◌, held_by_root, named_by, object_held, only_reference, slot_indexed, slot_named, stored_value}
 use Rattle.heap_world.specs.Sound.{IsSound}
 use Rattle.heap_world.proofs.FormedActs.{act_keeps}
 use Rattle.heap_world.proofs.FormedDefine.{IsGrown, define-grows}
 use Rattle.heap_world.proofs.FormedKept.{child_formed, collect_formed, first_formed}
 use Rattle.heap_world.proofs.FormedStores.{next_step, object-found, named-slot, indexed-slot}
-use Rattle.heap_world.specs.Cards.{held_cards, is_card_among, outward_cards, same_card}
+use Rattle.heap_world.specs.Cards.{held_cards, is_card_among, outward_cards, same_card, is_noted}
 use Rattle.heap_graph.proofs.LaidOut.{all-push, all-weaken}
 use Rattle.heap_world.proofs.FormedAims.{closed_objects}
 use Rattle.heap_world.proofs.FormedValues.{stored-fits}
@@ -127,7 +127,7 @@ module _ (p : Part) (formed : IsFormed p.graph) (marked : IsMarked p) where
       if_sealed sealed true =
           let at : Place = heap_place (is_large g.classes shape) in
           marked-graph p (root_written (allocated.with_heap_object g shape slots) root g.next) refl (standing-heap g shape slots formed.zygote)
-          (outward-pushed (λ card. is_noted p card ≡ true) g (root_written (allocated.with_heap_object g shape slots) root g.next) (made g.next at) refl refl (closed_objects g formed.closed)
+          (outward-pushed (λ card. is_noted p.stored p.held card ≡ true) g (root_written (allocated.with_heap_object g shape slots) root g.next) (made g.next at) refl refl (closed_objects g formed.closed)
           (heap_loose (is_large g.classes shape)) marked.outward_noted)
           marked
       if_sealed sealed false = if_collected sealed (has_room (collect g) shape)
@@ -137,7 +137,7 @@ module _ (p : Part) (formed : IsFormed p.graph) (marked : IsMarked p) where
           let at : Place = place.Image (image_base + image_fill g) in
           let h : Graph = root_written (allocated.with_object g shape slots at) root g.next in
           let images = all-push (λ o. is_in_image o.place ≡ true) g.objects (made g.next at) (formed.before_seal unsealed) refl in
-          marked-unsealed p h unsealed (objects-loose (λ card. is_noted p card ≡ true) h g.sealed h.objects (all-weaken _ _ (λ o e. image_loose unsealed o.place e) h.objects images)) marked
+          marked-unsealed p h unsealed (objects-loose (λ card. is_noted p.stored p.held card ≡ true) h g.sealed h.objects (all-weaken _ _ (λ o e. image_loose unsealed o.place e) h.objects images)) marked
       in_image unsealed false = tt
 
       made_by : (b : Bool) → g.sealed ≡ b → MarksMade p root (make_by b g shape slots)
@@ -171,7 +171,7 @@ module _ (p : Part) (formed : IsFormed p.graph) (marked : IsMarked p) where
   IsFound o = object_at g o.number ≡ Some o
 
   -- set and put
-  store_marks : (o : Object) (s : FieldAt) (r : Result Slot Refusal) → IsFound o → HasSlot g.classes o.shape s → IfOk r (FitsKind s.kind) → IfOk (r >>= (λ new. Ok (store p o s new))) Marks
+  store_marks : (o : Object) (s : FieldAt) (r : Result Content Refusal) → IsFound o → HasSlot g.classes o.shape s → IfOk r (FitsKind s.kind) → IfOk (r >>= (λ new. Ok (store p o s new))) Marks
   store_marks o s r found has fits = next_step (FitsKind s.kind) Marks r (λ new. Ok (store p o s new)) fits (λ new fits. store_marked p o s new formed found has fits marked)
 
   set_marks : (root field : List ℕ) (v : Value) → IfOk (set_field p root field v) Marks
@@ -230,7 +230,7 @@ module _ (p : Part) (formed : IsFormed p.graph) (marked : IsMarked p) where
       let h : Graph = record g { sealed = true } in
       let q : Part = record p { graph = h; touched = []; stored = [] } in
       marked-none q refl (distinct-none same_card) marked.held_once
-      (all-immune (λ card. is_noted q card ≡ true) h (all-weaken _ _ (λ o image. image_immune o.place image) g.objects (formed.before_seal e)))
+      (all-immune (λ card. is_noted q.stored q.held card ≡ true) h (all-weaken _ _ (λ o image. image_immune o.place image) g.objects (formed.before_seal e)))
 
   dump_marks : (b : Bool) → Marks (dump_if b p)
   dump_marks true = marked-graph p (dump_counted g) refl refl marked.outward_noted marked
@@ -245,7 +245,7 @@ module _ (p : Part) (formed : IsFormed p.graph) (marked : IsMarked p) where
       let h : Graph = promoted (collect g) in
       let q : Part = record p { graph = h; touched = []; stored = []; held = [] } in
       marked-none q refl (distinct-none same_card) (distinct-none same_card)
-      (all-immune (λ card. is_noted q card ≡ true) h (subst (λ b. AllByRecursion (λ o. is_immune b o.place ≡ true) h.objects) (sym sealed) (promoted-immune g.classes (promotion_start (collect g)) (collect g).objects)))
+      (all-immune (λ card. is_noted q.stored q.held card ≡ true) h (subst (λ b. AllByRecursion (λ o. is_immune b o.place ≡ true) h.objects) (sym sealed) (promoted-immune g.classes (promotion_start (collect g)) (collect g).objects)))
   fork_collected_marks sealed false = marked-collected p (collect g) refl (standing-collect g sealed formed) (outward-held g) marked
 
   fork_marks : (b : Bool) → g.sealed ≡ b → Marks (fork_by b p)

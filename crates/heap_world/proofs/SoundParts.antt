@@ -9,8 +9,8 @@ use Rattle.class_layout.specs.Kinds.{is_ref}
 use Rattle.heap_graph.specs.declared.names.Place.{Place}
 use Rattle.heap_graph.specs.declared.names.Place.TheVariants as place
 use Rattle.heap_graph.specs.declared.names.Shape.{Shape}
-use Rattle.heap_graph.specs.declared.names.Slot.{Slot}
-use Rattle.heap_graph.specs.declared.names.Slot.TheVariants as slot
+use Rattle.heap_graph.specs.declared.names.Content.{Content}
+use Rattle.heap_graph.specs.declared.names.Content.TheVariants as content
 use Rattle.heap_graph.specs.declared.names.Stored.{Stored}
 use Rattle.heap_graph.specs.Allocation.{heap_place, with_heap_object}
 use Rattle.heap_graph.specs.Collection.{collect, is_kept}
@@ -21,10 +21,10 @@ use Rattle.heap_graph.specs.Sizes.{is_large}
 use Rattle.heap_world.specs.declared.names.Card.{Card}
 use Rattle.heap_world.specs.declared.names.PageName.{PageName}
 use Rattle.heap_world.specs.Acts.{first_if, first_touch, store_effect, store, stored_cards_if, with_slot}
-use Rattle.heap_world.specs.Cards.{add_card, add_card_if, add_cards, cards_in, held_cards, is_card_among, is_outward, outward_cards, same_card}
+use Rattle.heap_world.specs.Cards.{add_card, add_card_if, add_cards, cards_in, held_cards, is_card_among, is_outward, outward_cards, same_card, is_noted}
 use Rattle.heap_world.specs.Formed.{IsFormed, FillZygote, FitsKind, HasSlot, IsBehindZygote, is_in_image, zygote_next}
 use Rattle.heap_world.specs.Pages.{is_touched, page_in, pages_if_promoted, same_page, standing_pages}
-use Rattle.heap_world.specs.Part.{Part, is_noted, with_collected}
+use Rattle.heap_world.specs.Part.{Part, with_collected}
 use Rattle.heap_world.specs.Sound.{IsSound}
 use Rattle.heap_world.proofs.FormedDefine.{IsGrown}
 use Rattle.heap_world.proofs.FormedKept.{loose-dropped}
@@ -44,7 +44,7 @@ pub record IsMarked (p : Part) : Type 0 where
   pub touched_once : IsDistinct same_page p.touched
   pub stored_once : IsDistinct same_card p.stored
   pub held_once : IsDistinct same_card p.held
-  pub outward_noted : AllByRecursion (λ card. is_noted p card ≡ true) (outward_cards p.graph)
+  pub outward_noted : AllByRecursion (λ card. is_noted p.stored p.held card ≡ true) (outward_cards p.graph)
 
 pub marked_of : (p : Part) → IsSound p → IsMarked p
 marked_of p sound = record {
@@ -96,7 +96,7 @@ distinct-cards [] cards d = d
 distinct-cards (c ∷ more) cards d = distinct-card c (add_cards more cards) (distinct-cards more cards d)
 
 -- another graph in which the same pages stand
-pub marked-graph : (p : Part) (g : Graph) → g.sealed ≡ p.graph.sealed → standing_pages g ≡ standing_pages p.graph → AllByRecursion (λ card. is_noted p card ≡ true) (outward_cards g) → IsMarked p
+pub marked-graph : (p : Part) (g : Graph) → g.sealed ≡ p.graph.sealed → standing_pages g ≡ standing_pages p.graph → AllByRecursion (λ card. is_noted p.stored p.held card ≡ true) (outward_cards g) → IsMarked p
     → IsMarked (record p { graph = g })
 marked-graph p g sealed same noted m = record {
   before_seal = λ e. m.before_seal (sym sealed ∙ e);
@@ -108,7 +108,7 @@ marked-graph p g sealed same noted m = record {
 }
 
 -- before the seal, any graph
-pub marked-unsealed : (p : Part) (g : Graph) → p.graph.sealed ≡ false → AllByRecursion (λ card. is_noted p card ≡ true) (outward_cards g) → IsMarked p → IsMarked (record p { graph = g })
+pub marked-unsealed : (p : Part) (g : Graph) → p.graph.sealed ≡ false → AllByRecursion (λ card. is_noted p.stored p.held card ≡ true) (outward_cards g) → IsMarked p → IsMarked (record p { graph = g })
 marked-unsealed p g unsealed noted m = record {
   before_seal = λ e. m.before_seal unsealed;
   touched_stand = subst (λ ps. AllByRecursion (λ page. is_touched (standing_pages g) page ≡ true) ps) (sym (m.before_seal unsealed)) tt;
@@ -131,7 +131,7 @@ marked-collected p g sealed same noted m = record {
 }
 
 -- nothing is marked
-pub marked-none : (p : Part) → p.touched ≡ [] → IsDistinct same_card p.stored → IsDistinct same_card p.held → AllByRecursion (λ card. is_noted p card ≡ true) (outward_cards p.graph) → IsMarked p
+pub marked-none : (p : Part) → p.touched ≡ [] → IsDistinct same_card p.stored → IsDistinct same_card p.held → AllByRecursion (λ card. is_noted p.stored p.held card ≡ true) (outward_cards p.graph) → IsMarked p
 marked-none p none stored held noted = record {
   before_seal = λ e. none;
   touched_stand = subst (λ ps. AllByRecursion (λ page. is_touched (standing_pages p.graph) page ≡ true) ps) (sym none) tt;
@@ -234,7 +234,7 @@ module _ (p : Part) (o : Object) (s : FieldAt) where
   IsStored card = (is_card_among (add_cards added p.stored) card || is_card_among p.held card) ≡ true
 
   -- what was noted is noted
-  noted_more : (card : Card) → is_noted p card ≡ true → IsStored card
+  noted_more : (card : Card) → is_noted p.stored p.held card ≡ true → IsStored card
   noted_more card h =
       elim (or_cases (is_card_among p.stored card) (is_card_among p.held card) h) [
         | inl stored ↦ or_left (is_card_among (add_cards added p.stored) card) (is_card_among p.held card) (stays-cards added card p.stored stored)
@@ -249,13 +249,13 @@ module _ (p : Part) (o : Object) (s : FieldAt) where
       let all : AllByRecursion (λ card. is_card_among (add_cards added p.stored) card ≡ true) cards = subst (λ cs. AllByRecursion (λ card. is_card_among (add_cards cs p.stored) card ≡ true) cards) (sym is) (has-cards cards p.stored) in
       all-weaken _ IsStored (λ card h. or_left (is_card_among (add_cards added p.stored) card) (is_card_among p.held card) h) cards all
 
-  outward_noted : (v : Slot) → FitsKind s.kind v → is_outward p.graph v ≡ true → AllByRecursion IsStored (cards_in o.place s.offset)
-  outward_noted (slot.Number z) fits out = absurd (true≢false (sym out))
-  outward_noted slot.Null fits out = absurd (true≢false (sym out))
-  outward_noted (slot.Object n) fits out = stored_noted fits
+  outward_noted : (v : Content) → FitsKind s.kind v → is_outward p.graph v ≡ true → AllByRecursion IsStored (cards_in o.place s.offset)
+  outward_noted (content.Number z) fits out = absurd (true≢false (sym out))
+  outward_noted content.Null fits out = absurd (true≢false (sym out))
+  outward_noted (content.Object n) fits out = stored_noted fits
 
 -- a store
-pub store_marked : (p : Part) (o : Object) (s : FieldAt) (v : Slot) → IsFormed p.graph → object_at p.graph o.number ≡ Some o → HasSlot p.graph.classes o.shape s → FitsKind s.kind v → IsMarked p
+pub store_marked : (p : Part) (o : Object) (s : FieldAt) (v : Content) → IsFormed p.graph → object_at p.graph o.number ≡ Some o → HasSlot p.graph.classes o.shape s → FitsKind s.kind v → IsMarked p
     → IsMarked (store p o s v).part
 store_marked p o s v formed found has fits m = by (is_immune p.graph.sealed o.place) refl
   where
@@ -270,7 +270,7 @@ store_marked p o s v formed found has fits m = by (is_immune p.graph.sealed o.pl
     by : (b : Bool) → is_immune p.graph.sealed o.place ≡ b → IsMarked (store_effect b p (with_slot p.graph o.number (record { at = s; value = v })) o s).part
     by false e =
         marked-graph p (with_slot p.graph o.number (record { at = s; value = v })) refl (standing-stored p.graph o.number (record { at = s; value = v }) formed)
-        (outward-stored (λ card. is_noted p card ≡ true) (λ card. is_noted p card ≡ true) (λ card h. h) p.graph o.number (record { at = s; value = v }) o formed.numbers found
+        (outward-stored (λ card. is_noted p.stored p.held card ≡ true) (λ card. is_noted p.stored p.held card ≡ true) (λ card h. h) p.graph o.number (record { at = s; value = v }) o formed.numbers found
         (λ immune out. absurd (true≢false (sym immune ∙ e))) m.outward_noted)
         m
     by true e =
@@ -282,6 +282,6 @@ store_marked p o s v formed found has fits m = by (is_immune p.graph.sealed o.pl
           touched_once = touch-once p.touched (page_in o o.place s.offset) m.touched_once;
           stored_once = distinct-cards (stored_cards_if (is_ref s.kind) (cards_in o.place s.offset)) p.stored m.stored_once;
           held_once = m.held_once;
-          outward_noted = outward-stored (λ card. is_noted p card ≡ true) (IsStored p o s) (noted_more p o s) p.graph o.number (record { at = s; value = v }) o formed.numbers found
+          outward_noted = outward-stored (λ card. is_noted p.stored p.held card ≡ true) (IsStored p o s) (noted_more p o s) p.graph o.number (record { at = s; value = v }) o formed.numbers found
               (λ immune out. outward_noted p o s v fits out) m.outward_noted;
         }

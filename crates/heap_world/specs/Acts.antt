@@ -17,8 +17,8 @@ use Rattle.heap_world.specs.declared.reply.Refusal.{Refusal}
 use Rattle.heap_world.specs.declared.reply.Refusal.TheVariants as refusal
 use Rattle.heap_graph.specs.declared.names.Shape.{Shape}
 use Rattle.heap_graph.specs.declared.names.Shape.TheVariants.{Instance, Array}
-use Rattle.heap_graph.specs.declared.names.Slot.{Slot}
-use Rattle.heap_graph.specs.declared.names.Slot.TheVariants as slot
+use Rattle.heap_graph.specs.declared.names.Content.{Content}
+use Rattle.heap_graph.specs.declared.names.Content.TheVariants as content
 use Rattle.heap_graph.specs.declared.names.Held.{Held}
 use Rattle.heap_graph.specs.declared.names.Stored.{Stored}
 use Rattle.heap_graph.specs.declared.names.Held.TheVariants as held
@@ -36,8 +36,8 @@ use Rattle.heap_world.specs.declared.names.PageName.TheVariants.{Image, Zygote, 
 use Rattle.heap_world.specs.Pages.{count_from, image_pages, zygote_pages, promoted_pages, page_in, is_touched, is_image_page, is_zygote_page, is_large_page}
 use Rattle.heap_world.specs.Slots.{◌>>=◌, slot_named, slot_indexed, held_by_root, object_held, named_by, stored_value, only_reference}
 use Rattle.heap_world.specs.declared.names.Card.{Card}
-use Rattle.heap_world.specs.Cards.{cards_in, add_cards}
-use Rattle.heap_world.specs.Part.{Part, noted_count, with_collected}
+use Rattle.heap_world.specs.Cards.{cards_in, add_cards, noted_count}
+use Rattle.heap_world.specs.Part.{Part, with_collected}
 use Rattle.heap_world.specs.Effect.{Effect, line_reads, tells, refuses, becomes, effect_or}
 
 -- class
@@ -77,7 +77,7 @@ root_written g root n = record g { roots = write_root g.roots root (held.Object 
 
 -- a collection allows 2,048 reads for each noted card
 abbrev pub collection_reads : Bool → Part → ℕ
-collection_reads true p = 2048 * noted_count p
+collection_reads true p = 2048 * noted_count p.stored p.held
 collection_reads false p = 0
 
 abbrev pub part_after : Bool → Part → Graph → Part
@@ -171,7 +171,7 @@ store_effect true p g o s =
       allowed = line_reads;
     }
 
-abbrev pub store : Part → Object → FieldAt → Slot → Effect
+abbrev pub store : Part → Object → FieldAt → Content → Effect
 store p o s v = store_effect (is_immune p.graph.sealed o.place) p (with_slot p.graph o.number (record { at = s; value = v })) o s
 
 abbrev pub set_field : Part → List ℕ → List ℕ → Value → Result Effect Refusal
@@ -194,10 +194,10 @@ put_element p root index v = do
 
 -- get, at
 
-abbrev pub slot_reply : Slot → Reply
-slot_reply (slot.Number z) = reply.Number z
-slot_reply slot.Null = reply.Null
-slot_reply (slot.Object n) = reply.Object n
+abbrev pub slot_reply : Content → Reply
+slot_reply (content.Number z) = reply.Number z
+slot_reply content.Null = reply.Null
+slot_reply (content.Object n) = reply.Object n
 
 abbrev pub get_field : Part → List ℕ → List ℕ → Result Effect Refusal
 get_field p root field = do
@@ -308,7 +308,7 @@ gc_if true p = gc_to p (collect p.graph)
 
 -- a fork allows 4,096 reads for each noted card
 abbrev pub fork_reads : Part → ℕ
-fork_reads p = 4096 * noted_count p
+fork_reads p = 4096 * noted_count p.stored p.held
 
 -- for an object, four reads per 4-byte word and 16
 abbrev pub object_reads : List Class → Object → ℕ

@@ -1,5 +1,5 @@
 -- Cards of the image and the zygote window.
-use Rattle.std.specs.Prelude.{ℕ, ◌+◌, ◌-◌, ◌/◌, Bool, true, false, not, List, [], ◌∷◌, ◌++◌, Option, None, Some, nat_eq}
+use Rattle.std.specs.Prelude.{ℕ, ◌+◌, ◌-◌, ◌/◌, Bool, true, false, not, ◌||◌, List, [], ◌∷◌, ◌++◌, Option, None, Some, nat_eq, length}
 use Rattle.std.specs.List.{list_any, flat_map}
 use Rattle.model_numbers.specs.Numbers.{image_base, zygote_base, card_bytes}
 use Rattle.heap_world.specs.declared.names.Card.{Card}
@@ -7,8 +7,8 @@ use Rattle.heap_world.specs.declared.names.Card.TheVariants.{Image, Zygote}
 use Rattle.heap_graph.specs.declared.names.Stored.{Stored}
 use Rattle.heap_graph.specs.declared.names.Place.{Place}
 use Rattle.heap_graph.specs.declared.names.Place.TheVariants as place
-use Rattle.heap_graph.specs.declared.names.Slot.{Slot}
-use Rattle.heap_graph.specs.declared.names.Slot.TheVariants as slot
+use Rattle.heap_graph.specs.declared.names.Content.{Content}
+use Rattle.heap_graph.specs.declared.names.Content.TheVariants as content
 use Rattle.heap_graph.specs.Graph.{Object, Graph, is_immune, object_at}
 
 abbrev pub same_card : Card → Card → Bool
@@ -45,10 +45,10 @@ loose_if None sealed = false
 loose_if (Some o) sealed = not (is_immune sealed o.place)
 
 -- a slot holds an object that isn't immune
-abbrev pub is_outward : Graph → Slot → Bool
-is_outward g (slot.Number z) = false
-is_outward g slot.Null = false
-is_outward g (slot.Object n) = loose_if (object_at g n) g.sealed
+abbrev pub is_outward : Graph → Content → Bool
+is_outward g (content.Number z) = false
+is_outward g content.Null = false
+is_outward g (content.Object n) = loose_if (object_at g n) g.sealed
 
 abbrev pub cards_if : Bool → Place → ℕ → List Card
 cards_if true at offset = cards_in at offset
@@ -70,3 +70,11 @@ outward_cards g = flat_map (λ o. object_cards g (is_immune g.sealed o.place) o)
 -- each of these cards once
 abbrev pub held_cards : Graph → List Card
 held_cards g = add_cards (outward_cards g) []
+
+-- a card is noted, given the cards that a reference was stored in and those that held an object that isn't immune: it is one of them
+abbrev pub is_noted : List Card → List Card → Card → Bool
+is_noted stored held card = is_card_among stored card || is_card_among held card
+
+-- how many cards are noted
+abbrev pub noted_count : List Card → List Card → ℕ
+noted_count stored held = length (add_cards stored held)

@@ -12,8 +12,8 @@ use Rattle.heap_graph.specs.declared.names.Place.{Place}
 use Rattle.heap_graph.specs.declared.names.Place.TheVariants as place
 use Rattle.heap_graph.specs.declared.names.Shape.{Shape}
 use Rattle.heap_graph.specs.declared.names.Shape.TheVariants.{Instance, Array}
-use Rattle.heap_graph.specs.declared.names.Slot.{Slot}
-use Rattle.heap_graph.specs.declared.names.Slot.TheVariants as slot
+use Rattle.heap_graph.specs.declared.names.Content.{Content}
+use Rattle.heap_graph.specs.declared.names.Content.TheVariants as content
 use Rattle.heap_graph.specs.declared.names.Stored.{Stored}
 use Rattle.heap_graph.specs.Graph.{Graph, Object, image_fill, image_size, size_of_object, zygote_fill}
 use Rattle.heap_graph.specs.Packing.{costs, used}
@@ -48,10 +48,10 @@ AreObjects cs [] = Unit {0}
 AreObjects cs (o ∷ os) = IsShape cs o.shape × AreSlots cs o.shape o.slots × AreObjects cs os
 
 -- what a slot of a kind may hold: a number in the kind's range, and for a reference null or an object
-abbrev pub FitsKind : Kind → Slot → Type 0
-FitsKind kind (slot.Number z) = in_range kind z ≡ true
-FitsKind kind slot.Null = is_ref kind ≡ true
-FitsKind kind (slot.Object n) = is_ref kind ≡ true
+abbrev pub FitsKind : Kind → Content → Type 0
+FitsKind kind (content.Number z) = in_range kind z ≡ true
+FitsKind kind content.Null = is_ref kind ≡ true
+FitsKind kind (content.Object n) = is_ref kind ≡ true
 
 -- each stored value fits its slot
 abbrev pub HoldsValues : Object → Type 0

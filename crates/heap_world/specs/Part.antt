@@ -1,9 +1,9 @@
 -- What a process is, but for its name and its labels.
-use Rattle.std.specs.Prelude.{ℕ, Bool, false, ◌||◌, List, [], length}
+use Rattle.std.specs.Prelude.{ℕ, Bool, false, List, []}
 use Rattle.heap_graph.specs.Graph.{Graph, first_graph}
 use Rattle.heap_world.specs.declared.names.PageName.{PageName}
 use Rattle.heap_world.specs.declared.names.Card.{Card}
-use Rattle.heap_world.specs.Cards.{add_cards, held_cards, is_card_among}
+use Rattle.heap_world.specs.Cards.{held_cards}
 
 pub record Part : Type 0 where
   pub graph : Graph
@@ -17,14 +17,6 @@ pub record Part : Type 0 where
 
 abbrev pub first_part : ℕ → ℕ → Part
 first_part budget number = record { graph = first_graph budget number; exited = false; touched = []; stored = []; held = [] }
-
--- a card is noted: a reference was stored in it, or it held an object that isn't immune
-abbrev pub is_noted : Part → Card → Bool
-is_noted p card = is_card_among p.stored card || is_card_among p.held card
-
--- how many cards are noted: a reference was stored in them, or they held an object that isn't immune
-abbrev pub noted_count : Part → ℕ
-noted_count p = length (add_cards p.stored p.held)
 
 -- a collection looks at the cards first
 abbrev pub with_collected : Part → Graph → Part

@@ -11,8 +11,8 @@ use Rattle.heap_world.specs.declared.reply.Refusal.{Refusal}
 use Rattle.heap_world.specs.declared.reply.Refusal.TheVariants as refusal
 use Rattle.heap_graph.specs.declared.names.Shape.{Shape}
 use Rattle.heap_graph.specs.declared.names.Shape.TheVariants.{Instance, Array}
-use Rattle.heap_graph.specs.declared.names.Slot.{Slot}
-use Rattle.heap_graph.specs.declared.names.Slot.TheVariants as slot
+use Rattle.heap_graph.specs.declared.names.Content.{Content}
+use Rattle.heap_graph.specs.declared.names.Content.TheVariants as content
 use Rattle.heap_graph.specs.declared.names.Held.{Held}
 use Rattle.heap_graph.specs.declared.names.Root.{Root}
 use Rattle.heap_graph.specs.declared.names.Held.TheVariants as held
@@ -66,16 +66,16 @@ named_by g (value.Number z) = Ok held.Null
 named_by g value.Null = Ok held.Null
 named_by g (value.Root name) = held_by_root g name
 
-abbrev pub number_if_fits : Bool → ℤ → Result Slot Refusal
-number_if_fits true z = Ok (slot.Number z)
+abbrev pub number_if_fits : Bool → ℤ → Result Content Refusal
+number_if_fits true z = Ok (content.Number z)
 number_if_fits false z = Err refusal.Misfit
 
-abbrev pub reference_if : Bool → Held → Result Slot Refusal
+abbrev pub reference_if : Bool → Held → Result Content Refusal
 reference_if true h = Ok (slot_of h)
 reference_if false h = Err refusal.Misfit
 
 -- what a value stores in a slot of a kind; h is what the root that it names holds
-abbrev pub stored_value : Kind → Value → Held → Result Slot Refusal
+abbrev pub stored_value : Kind → Value → Held → Result Content Refusal
 stored_value kind (value.Number z) h = number_if_fits (in_range kind z) z
 stored_value kind value.Null h = reference_if (is_ref kind) held.Null
 stored_value kind (value.Root name) h = reference_if (is_ref kind) h

@@ -1,10 +1,10 @@
 -- What holds of each process, after every line.
 use Rattle.std.specs.Prelude.{◌≡◌, true, false, []}
 use Rattle.std.specs.List.{AllByRecursion, IsDistinct}
-use Rattle.heap_world.specs.Cards.{outward_cards, same_card}
+use Rattle.heap_world.specs.Cards.{outward_cards, same_card, is_noted}
 use Rattle.heap_world.specs.Formed.{IsFormed}
 use Rattle.heap_world.specs.Pages.{is_touched, same_page, standing_pages}
-use Rattle.heap_world.specs.Part.{Part, is_noted}
+use Rattle.heap_world.specs.Part.{Part}
 
 pub record IsSound (p : Part) : Type 0 where
   pub formed : IsFormed p.graph
@@ -18,4 +18,4 @@ pub record IsSound (p : Part) : Type 0 where
   pub stored_once : IsDistinct same_card p.stored
   pub held_once : IsDistinct same_card p.held
   -- each card in which an immune slot holds an object that isn't immune is noted
-  pub outward_noted : AllByRecursion (λ card. is_noted p card ≡ true) (outward_cards p.graph)
+  pub outward_noted : AllByRecursion (λ card. is_noted p.stored p.held card ≡ true) (outward_cards p.graph)

@@ -2,8 +2,8 @@
 use Rattle.std.proofs.Common.{◌≡◌, ℕ, zero, suc, ◌+◌, ◌-◌, ◌<◌, true, false, not, cond, List, [], ◌∷◌, ◌++◌, map, take, get_or, length, append-nil, refl, sym, ap, ◌∙◌, arith}
 use Rattle.std.proofs.lemmas.List.{take_more, map-append}
 use Rattle.std.proofs.lemmas.List.Elements.{filter_more}
-use Rattle.heap_graph.specs.declared.names.Slot.{Slot}
-use Rattle.heap_graph.specs.declared.names.Slot.TheVariants as slot
+use Rattle.heap_graph.specs.declared.names.Content.{Content}
+use Rattle.heap_graph.specs.declared.names.Content.TheVariants as content
 use Rattle.heap_graph.specs.declared.names.Root.{Root}
 use Rattle.heap_graph.specs.declared.names.Held.{Held}
 use Rattle.heap_graph.specs.declared.names.Stored.{Stored}
@@ -12,10 +12,10 @@ use Rattle.heap_graph.specs.Reach.{Node, next_round, round, reached_from}
 use Rattle.plain_graph.specs.Reaching.{roots_held}
 
 -- a slot's target in front of two lists
-with_target-append : (s : Slot) (ms ns : List ℕ) → with_target s (ms ++ ns) ≡ with_target s ms ++ ns
-with_target-append (slot.Number z) ms ns = refl
-with_target-append slot.Null ms ns = refl
-with_target-append (slot.Object n) ms ns = refl
+with_target-append : (s : Content) (ms ns : List ℕ) → with_target s (ms ++ ns) ≡ with_target s ms ++ ns
+with_target-append (content.Number z) ms ns = refl
+with_target-append content.Null ms ns = refl
+with_target-append (content.Object n) ms ns = refl
 
 targets-append : (ss ts : List Stored) → targets (ss ++ ts) ≡ targets ss ++ targets ts
 targets-append [] ts = refl

@@ -4,7 +4,7 @@ ghost use Rattle.heap_graph.specs.Collection as collection;
 
 use crate::reach::is_among;
 use crate::{Graph, Object};
-use heap_graph::{Slot, Stored};
+use heap_graph::{Content, Stored};
 use std::alloc::{AllocError, Global};
 
 impl Graph {
@@ -89,7 +89,7 @@ fn cleared_stored(kept: &[u32], stored: Stored) -> Stored
     ensures { result ≡ collection.cleared_stored kept.now stored }
 {
     let value = match stored.value {
-        Slot::Object(n) if stored.at.weak && !is_among(kept, n) => Slot::Null,
+        Content::Object(n) if stored.at.weak && !is_among(kept, n) => Content::Null,
         value => value,
     };
     Stored {

@@ -1,6 +1,6 @@
 use crate::values;
 use class_layout::FieldAt;
-use heap_graph::{Place, Shape, Slot, Stored};
+use heap_graph::{Content, Place, Shape, Stored};
 use std::alloc::AllocError;
 use std::marker::Model;
 
@@ -74,7 +74,7 @@ impl Object {
     }
 
     /// What a field or an element holds: null or 0 where nothing was stored.
-    pub fn value_at(&self, at: &FieldAt) -> Slot
+    pub fn value_at(&self, at: &FieldAt) -> Content
         ensures { result ≡ value_at self.now.slots at.now }
     {
         values::value_at(&self.slots, at)

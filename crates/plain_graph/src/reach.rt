@@ -5,7 +5,7 @@ ghost use Rattle.heap_graph.specs.Values.{slot_of, strong_slots, targets, with_t
 ghost use Rattle.plain_graph.specs.Reaching.{roots_held};
 
 use crate::{Graph, Object};
-use heap_graph::{Held, Root, Slot, Stored};
+use heap_graph::{Content, Held, Root, Stored};
 use std::alloc::{AllocError, Global};
 use std::marker::Model;
 
@@ -75,23 +75,23 @@ impl Graph {
 }
 
 // The object that a slot holds, behind others.
-fn push_target(numbers: &mut Vec<u32>, slot: Slot) -> Result<(), AllocError>
+fn push_target(numbers: &mut Vec<u32>, slot: Content) -> Result<(), AllocError>
     ensures { OnOk result (numbers.new.items ≡ numbers.old.items ++ with_target slot []) }
 {
     match slot {
-        Slot::Object(n) => numbers.push(n)?,
-        Slot::Number(_) | Slot::Null => {}
+        Content::Object(n) => numbers.push(n)?,
+        Content::Number(_) | Content::Null => {}
     }
     Ok(())
 }
 
 // A root's reference as a slot.
-fn slot_of(held: Held) -> Slot
+fn slot_of(held: Held) -> Content
     ensures { result ≡ slot_of held }
 {
     match held {
-        Held::Null => Slot::Null,
-        Held::Object(n) => Slot::Object(n),
+        Held::Null => Content::Null,
+        Held::Object(n) => Content::Object(n),
     }
 }
 

@@ -4,11 +4,11 @@ ghost use Rattle.heap_graph.specs.Values.{empty_slot, value_at, with_stored};
 
 use crate::is_ref;
 use class_layout::FieldAt;
-use heap_graph::{Slot, Stored};
+use heap_graph::{Content, Stored};
 use std::alloc::{AllocError, Global};
 
 /// What a field or an element holds, given what was stored: null or 0 where nothing was.
-pub(crate) fn value_at(stored: &[Stored], at: &FieldAt) -> Slot
+pub(crate) fn value_at(stored: &[Stored], at: &FieldAt) -> Content
     ensures { result ≡ value_at stored.now at.now }
 {
     for s in stored {
@@ -17,9 +17,9 @@ pub(crate) fn value_at(stored: &[Stored], at: &FieldAt) -> Slot
         }
     }
     if is_ref(at.kind) {
-        Slot::Null
+        Content::Null
     } else {
-        Slot::Number(0)
+        Content::Number(0)
     }
 }
 

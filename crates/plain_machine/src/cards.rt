@@ -4,7 +4,7 @@ ghost use Rattle.model_numbers.specs.Numbers.{card_bytes};
 ghost use Rattle.heap_graph.specs.Graph.{is_immune};
 ghost use Rattle.heap_world.specs.Cards.{same_card, is_card_among, add_card, add_cards, cards_if, cards_in, held_cards, is_outward, object_cards, slot_cards};
 
-use heap_graph::{Place, Slot, Stored};
+use heap_graph::{Content, Place, Stored};
 use heap_world::Card;
 use model_numbers::{CARD_BYTES, IMAGE_BASE, ZYGOTE_BASE};
 use plain_graph::{Graph, Object};
@@ -67,15 +67,15 @@ pub(crate) fn add_cards(cards: &[Card], set: &mut Vec<Card>) -> Result<(), Alloc
 }
 
 /// Whether a slot holds an object that isn't immune.
-fn is_outward(graph: &Graph, slot: Slot) -> bool
+fn is_outward(graph: &Graph, slot: Content) -> bool
     ensures { result ≡ is_outward graph.now slot }
 {
     match slot {
-        Slot::Object(number) => match graph.object_at(number) {
+        Content::Object(number) => match graph.object_at(number) {
             Some(o) => !o.is_immune(graph.is_sealed()),
             None => false,
         },
-        Slot::Number(_) | Slot::Null => false,
+        Content::Number(_) | Content::Null => false,
     }
 }
 

@@ -11,18 +11,18 @@ use crate::outcome::Outcome;
 use crate::part::Part;
 use crate::slots::{held_of, only_reference};
 use class_layout::{FieldAt, Kind, Name};
-use heap_graph::{Held, Shape, Slot};
+use heap_graph::{Content, Held, Shape};
 use heap_world::{Refusal, Reply};
 use plain_graph::Object;
 use std::alloc::AllocError;
 
-fn slot_reply(slot: Slot) -> Reply
+fn slot_reply(slot: Content) -> Reply
     ensures { result ≡ slot_reply slot }
 {
     match slot {
-        Slot::Number(z) => Reply::Number(z),
-        Slot::Null => Reply::Null,
-        Slot::Object(number) => Reply::Object(number),
+        Content::Number(z) => Reply::Number(z),
+        Content::Null => Reply::Null,
+        Content::Object(number) => Reply::Object(number),
     }
 }
 

@@ -10,27 +10,27 @@ ghost use Rattle.heap_world.specs.Sound.{IsSound};
 
 use crate::part::Part;
 use class_layout::{FieldAt, Kind, Name, Value, element_offset, fits};
-use heap_graph::{Held, Shape, Slot};
+use heap_graph::{Content, Held, Shape};
 use heap_world::Refusal;
 use plain_graph::{Object, is_ref};
 
 /// A root's reference as a slot.
-pub(crate) fn slot_of(held: Held) -> Slot
+pub(crate) fn slot_of(held: Held) -> Content
     ensures { result ≡ values.slot_of held }
 {
     match held {
-        Held::Null => Slot::Null,
-        Held::Object(number) => Slot::Object(number),
+        Held::Null => Content::Null,
+        Held::Object(number) => Content::Object(number),
     }
 }
 
 /// A slot's reference. A number is none.
-pub(crate) fn held_of(slot: Slot) -> Held
+pub(crate) fn held_of(slot: Content) -> Held
     ensures { result ≡ values.held_of slot }
 {
     match slot {
-        Slot::Object(number) => Held::Object(number),
-        Slot::Number(_) | Slot::Null => Held::Null,
+        Content::Object(number) => Held::Object(number),
+        Content::Number(_) | Content::Null => Held::Null,
     }
 }
 
@@ -46,12 +46,12 @@ pub(crate) fn only_reference(kind: Kind, held: Held) -> Result<Held, Refusal>
 }
 
 /// What a value stores in a slot of a kind, where `named` is what the root that it names holds.
-pub(crate) fn stored_value(kind: Kind, value: &Value, named: Held) -> Result<Slot, Refusal>
+pub(crate) fn stored_value(kind: Kind, value: &Value, named: Held) -> Result<Content, Refusal>
     ensures { result ≡ stored_value kind value.now named }
 {
     match value {
-        Value::Number(z) if fits(kind, *z) => Ok(Slot::Number(*z)),
-        Value::Null if is_ref(kind) => Ok(Slot::Null),
+        Value::Number(z) if fits(kind, *z) => Ok(Content::Number(*z)),
+        Value::Null if is_ref(kind) => Ok(Content::Null),
         Value::Root(_) if is_ref(kind) => Ok(slot_of(named)),
         _ => Err(Refusal::Misfit),
     }

@@ -14,7 +14,7 @@ use crate::pages::{is_touched, page_in};
 use crate::part::Part;
 use crate::slots::stored_value;
 use class_layout::{FieldAt, Name, Value};
-use heap_graph::{Place, Slot, Stored};
+use heap_graph::{Content, Place, Stored};
 use heap_world::{Card, PageName, Refusal, Reply};
 use plain_graph::{Object, is_ref};
 use std::alloc::AllocError;
@@ -62,7 +62,7 @@ fn note(cards: &mut Vec<Card>, card: Option<Card>) -> Result<(), AllocError>
 
 impl Part {
     /// Stores a value in a slot of an object.
-    fn store(&self, o: &Object, at: &FieldAt, value: Slot) -> Result<Outcome, AllocError>
+    fn store(&self, o: &Object, at: &FieldAt, value: Content) -> Result<Outcome, AllocError>
         ensures { IfOk result (λ out. IsOutcome self.now out (store self.now o.now at.now value)) }
     {
         let graph = self
@@ -91,7 +91,7 @@ impl Part {
         root: &Name,
         field: &Name,
         value: &Value,
-    ) -> Result<(&Object, FieldAt, Slot), Refusal>
+    ) -> Result<(&Object, FieldAt, Content), Refusal>
         requires sound { IsSound self.now }
         ensures { MatchResult result
             (λ r. set_field self.now root.now field.now value.now ≡ Ok (store self.now r.0.now r.1 r.2))
@@ -111,7 +111,7 @@ impl Part {
         root: &Name,
         index: u32,
         value: &Value,
-    ) -> Result<(&Object, FieldAt, Slot), Refusal>
+    ) -> Result<(&Object, FieldAt, Content), Refusal>
         requires sound { IsSound self.now }
         ensures { MatchResult result
             (λ r. put_element self.now root.now index value.now ≡ Ok (store self.now r.0.now r.1 r.2))
