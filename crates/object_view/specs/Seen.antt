@@ -9,8 +9,8 @@ use Rattle.heap_graph.specs.declared.names.Held.{Held}
 use Rattle.heap_graph.specs.declared.names.Held.TheVariants as held
 use Rattle.heap_graph.specs.declared.names.Place.{Place}
 use Rattle.heap_graph.specs.declared.names.Place.TheVariants as place
-use Rattle.heap_graph.specs.declared.names.Slot.{Slot}
-use Rattle.heap_graph.specs.declared.names.Slot.TheVariants as slot
+use Rattle.heap_graph.specs.declared.names.Content.{Content}
+use Rattle.heap_graph.specs.declared.names.Content.TheVariants as content
 use Rattle.heap_graph.specs.Graph.{Graph, Object}
 use Rattle.heap_graph.specs.Sizes.{is_too_large}
 use Rattle.heap_graph.specs.Table.{Fits, in_spot_window}
@@ -34,10 +34,10 @@ root_address table held.Null = 0
 root_address table (held.Object n) = table n
 
 -- what a slot holds as a number: a reference is an address, and null is 0
-abbrev pub seen_value : (ℕ → ℕ) → Slot → ℤ
-seen_value table (slot.Number z) = z
-seen_value table slot.Null = pos 0
-seen_value table (slot.Object n) = pos (table n)
+abbrev pub seen_value : (ℕ → ℕ) → Content → ℤ
+seen_value table (content.Number z) = z
+seen_value table content.Null = pos 0
+seen_value table (content.Object n) = pos (table n)
 
 -- what stands at a place of an object; 0 or null where nothing was stored
 abbrev pub value_in : (ℕ → ℕ) → Object → FieldAt → ℤ
