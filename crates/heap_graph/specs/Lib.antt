@@ -7,4 +7,5 @@ pub mod Packing
 pub mod Paths
 pub mod Reach
 pub mod Sizes
+pub mod Table
 pub mod Values

@@ -2,3 +2,4 @@ pub mod Values
 pub mod Words
 pub mod Objects
 pub mod Changes
+pub mod Seen

@@ -5,6 +5,7 @@
 #![tactic(auto)]
 
 mod headers;
+mod heap_view;
 mod laws;
 mod names;
 mod objects;
@@ -15,6 +16,7 @@ mod words;
 
 pub use headers::{read_header, read_shape, set_forward};
 pub use heap_graph::Shape;
+pub use heap_view::{HeapView, Seen};
 pub use laws::{
     all_references, alone_stays, copies_stand, forwarded_objects_stand, headers_read_back,
     mapped_is_below, more_classes_stand, objects_are_their_bytes, others_stand,
