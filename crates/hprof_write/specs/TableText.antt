@@ -14,7 +14,7 @@ hex_digits (suc k) n = hex_digit (n / 16 ^ k % 16) ∷ hex_digits k n
 
 -- an object's number and its address
 abbrev pub table_line : ℕ → ℕ → List ℕ
-table_line number at = concat (codes "#" ∷ decimal number ∷ codes " 0x" ∷ hex_digits 8 at ∷ 10 ∷ [] ∷ [])
+table_line number at = concat (codes "#" ∷ decimal number ∷ codes " 0x" ∷ hex_digits 8 at ∷ (10 ∷ []) ∷ [])
 
 -- a line for each object, by rising number
 abbrev pub table_text : Graph → (ℕ → ℕ) → List ℕ

@@ -1,5 +1,5 @@
 //! The definitions, computed: the records of small dumps, and lines of a table.
-ghost use Rattle.std.specs.Prelude.{◌≡◌, ◌++◌, ◌∷◌, [], codes, length};
+ghost use Rattle.std.specs.Prelude.{◌≡◌, ◌+◌, ◌*◌, ◌++◌, ◌∷◌, [], codes};
 ghost use Rattle.hprof_records.specs.Examples as records;
 ghost use Rattle.heap_graph.specs.Sizes.{image_base};
 ghost use Rattle.hprof_write.specs.Examples.{bare_process, one_of_each, process_of, segment_lengths, two_classes};
