@@ -1,24 +1,26 @@
 -- The objects of a dump, and its roots.
-use Rattle.std.specs.Prelude.{ℕ, zero, suc, ◌+◌, Bool, true, false, List, [], ◌∷◌, ◌++◌, Option, None, Some, map, slice_get, unwrap_or, ℤ}
-use Rattle.std.specs.List.{flat_map}
+use Rattle.std.specs.Prelude.{◌≡◌, ℕ, zero, suc, ◌+◌, Bool, true, false, List, [], ◌∷◌, ◌++◌, Option, None, Some, map, slice_get, unwrap_or, ℤ}
+use Rattle.std.specs.Int.{w64, cast_unsigned}
+use Rattle.std.specs.List.{concat, flat_map}
 use Rattle.class_layout.specs.declared.kind.FieldAt.{FieldAt}
 use Rattle.class_layout.specs.declared.kind.Kind.{Kind}
 use Rattle.class_layout.specs.declared.kind.Kind.TheVariants.{Ref}
 use Rattle.class_layout.specs.ClassList.{Class, layout_of, own_fields_of}
 use Rattle.class_layout.specs.Kinds.{is_ref, kind_bytes}
 use Rattle.class_layout.specs.Layout.{Laid, field_named}
+use Rattle.class_layout.specs.Placing.{IsIn}
 use Rattle.heap_graph.specs.declared.names.Held.{Held}
 use Rattle.heap_graph.specs.declared.names.Held.TheVariants as held
 use Rattle.heap_graph.specs.declared.names.Root.{Root}
 use Rattle.heap_graph.specs.declared.names.Shape.{Shape}
 use Rattle.heap_graph.specs.declared.names.Shape.TheVariants.{Instance, Array}
-use Rattle.heap_graph.specs.Graph.{Object}
+use Rattle.heap_graph.specs.Graph.{Graph, Object}
 use Rattle.hprof_records.specs.declared.sub_record.SubRecord.{SubRecord}
 use Rattle.hprof_records.specs.declared.sub_record.SubRecord.TheVariants as part
 use Rattle.hprof_records.specs.Fields.{field}
-use Rattle.object_view.specs.Objects.{elements_from}
+use Rattle.hprof_records.specs.Parts.{word}
+use Rattle.object_view.specs.Objects.{elements_from, places_of}
 use Rattle.object_view.specs.Seen.{value_in}
-use Rattle.object_view.specs.Values.{number_of}
 use Rattle.hprof_write.specs.Classes.{array_class_id, class_id, kind_code}
 
 -- where no field is found
@@ -47,9 +49,13 @@ places_up cs (suc n) (Some k) = own_places cs k ++ places_up cs n (parent_of cs 
 abbrev pub dumped_places : List Class → ℕ → List FieldAt
 dumped_places cs k = places_up cs (suc k) (Some k)
 
--- a value's bytes, the highest first, in two's complement
+-- a value as a number of 64 bits, in two's complement; of a reference it is the address
+abbrev pub bits_of : ℤ → ℕ
+bits_of z = cast_unsigned w64 z
+
+-- a value's bytes: as many as its kind has, the highest first
 abbrev pub value_bytes : Kind → ℤ → List ℕ
-value_bytes kind z = field (kind_bytes kind) (number_of kind z)
+value_bytes kind z = field (kind_bytes kind) (bits_of z)
 
 -- the bytes of an object's values at these places
 abbrev pub values_bytes : (ℕ → ℕ) → Object → List FieldAt → List ℕ
@@ -57,13 +63,27 @@ values_bytes table o places = flat_map (λ p. value_bytes p.kind (value_in table
 
 -- the references of an array
 abbrev pub items_of : (ℕ → ℕ) → Object → ℕ → List ℕ
-items_of table o count = map (λ p. number_of Ref (value_in table o p)) (elements_from Ref 0 count)
+items_of table o count = map (λ p. bits_of (value_in table o p)) (elements_from Ref 0 count)
 
 -- an array of references, or of numbers
 abbrev pub array_part : Bool → (ℕ → ℕ) → Object → Kind → ℕ → SubRecord
 array_part true table o kind count = part.ObjectArray (table o.number) 0 array_class_id (items_of table o count)
 array_part false table o kind count =
     part.PrimitiveArray (table o.number) 0 (kind_code kind) count (values_bytes table o (elements_from kind 0 count))
+
+-- the bytes of an array before its elements
+abbrev pub array_head_if : Bool → ℕ → Kind → ℕ → List ℕ
+array_head_if true at kind count = concat (field 1 0x22 ∷ word at ∷ word 0 ∷ word count ∷ word array_class_id ∷ [])
+array_head_if false at kind count = concat (field 1 0x23 ∷ word at ∷ word 0 ∷ word count ∷ field 1 (kind_code kind) ∷ [])
+
+abbrev pub array_head : ℕ → Kind → ℕ → List ℕ
+array_head at kind count = array_head_if (is_ref kind) at kind count
+
+-- an object of the graph stands at the address, and values of it stand at these places
+pub record HasValues (g : Graph) (table : ℕ → ℕ) (at : ℕ) (places : List FieldAt) (o : Object) : Type 0 where
+  pub is_in : IsIn o g.objects
+  pub at_is : table o.number ≡ at
+  pub values : (p : FieldAt) → IsIn p places → IsIn p (places_of g.classes o.shape)
 
 -- an object of a shape, at its address
 abbrev pub shape_part : List Class → (ℕ → ℕ) → Object → Shape → SubRecord

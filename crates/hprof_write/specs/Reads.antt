@@ -5,6 +5,10 @@ use Rattle.heap_graph.specs.Graph.{Graph, Object, size_of_object}
 use Rattle.heap_graph.specs.Table.{in_spot_window}
 use Rattle.object_view.specs.Seen.{count_if}
 
+-- for the values of an object of these windows: four for each of its words of 4 bytes
+abbrev pub object_values : List Class → Object → ℕ
+object_values cs o = count_if (in_spot_window o.place) (4 * (size_of_object cs o / 4))
+
 -- for an object of these windows: four for each of its words of 4 bytes, and 10 besides
 abbrev pub object_reads : List Class → Object → ℕ
 object_reads cs o = count_if (in_spot_window o.place) (4 * (size_of_object cs o / 4) + 10)

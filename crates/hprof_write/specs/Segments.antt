@@ -1,12 +1,15 @@
 -- The segments of a dump, and how they are filled.
-use Rattle.std.specs.Prelude.{ℕ, ◌+◌, Bool, true, false, ◌||◌, List, [], ◌∷◌, ◌++◌, codes, fold, length, nat_eq, nat_le}
+use Rattle.std.specs.Prelude.{◌≡◌, ℕ, ◌+◌, Bool, true, false, ◌||◌, List, [], ◌∷◌, ◌++◌, codes, fold, length, nat_eq, nat_le}
+use Rattle.ah_outside.specs.Outside.{Shelved}
 use Rattle.hprof_records.specs.declared.sub_record.SubRecord.{SubRecord}
 use Rattle.hprof_records.specs.declared.sub_record.SubRecord.TheVariants.{HeapInfo}
 use Rattle.hprof_records.specs.declared.top_record.TopRecord.{TopRecord}
 use Rattle.hprof_records.specs.declared.top_record.TopRecord.TheVariants.{Segment}
 use Rattle.hprof_records.specs.Parts.{bytes_of_parts}
+use Rattle.hprof_records.specs.Records.{bytes_of_records}
 use Rattle.object_view.specs.declared.names.Heap.{Heap}
 use Rattle.object_view.specs.declared.names.Heap.TheVariants.{Image, Zygote, App}
+use Rattle.hprof_write.specs.Outcomes.{AppendedBut}
 use Rattle.hprof_write.specs.Strings.{string_id}
 
 -- what goes into segments: a root or a class, or an object with its heap
@@ -80,3 +83,13 @@ with_item ss f (InHeap heap part) = with_object (with_heap ss heap (with_room f)
 -- the segments that hold these items
 abbrev pub segments : List (List ℕ) → List Item → List TopRecord
 segments ss items = closed (fold (with_item ss) (begun []) items)
+
+-- the bytes, the objects and the heap of the current segment
+pub record IsCurrent (f : Filling) (body : List ℕ) (objects heap : ℕ) : Type 0 where
+  pub body_is : body ≡ bytes_of_parts f.parts
+  pub objects_is : objects ≡ f.objects
+  pub heap_is : heap ≡ f.heap
+
+-- behind the front the segments that are done were appended, but for what waits
+abbrev pub IsFilled : Shelved → List ℕ → Filling → List ℕ → Shelved → Type 0
+IsFilled start front f waiting now = AppendedBut start (front ++ bytes_of_records f.done) waiting now

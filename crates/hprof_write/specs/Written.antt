@@ -1,5 +1,6 @@
 -- The records of the dump of a graph.
 use Rattle.std.specs.Prelude.{ℕ, List, [], ◌∷◌, ◌++◌, map}
+use Rattle.class_layout.specs.ClassList.{Class}
 use Rattle.heap_graph.specs.Graph.{Graph}
 use Rattle.hprof_records.specs.declared.top_record.TopRecord.{TopRecord}
 use Rattle.hprof_records.specs.declared.top_record.TopRecord.TheVariants.{Trace, Other}
@@ -18,8 +19,8 @@ abbrev pub dump_end : TopRecord
 dump_end = Other 0 0x2c []
 
 -- what comes before the segments: the strings, the classes, the stack trace
-abbrev pub front : List (List ℕ) → Graph → List TopRecord
-front ss g = text_records 1 ss ++ load_records ss g.classes ++ no_trace ∷ []
+abbrev pub front_of : List (List ℕ) → List Class → List TopRecord
+front_of ss cs = text_records 1 ss ++ load_records ss cs ++ no_trace ∷ []
 
 -- what goes into the segments: the roots, the classes, the objects
 abbrev pub items : List (List ℕ) → Graph → (ℕ → ℕ) → List Item
@@ -28,7 +29,7 @@ items ss g table =
     ++ map (λ o. InHeap (heap_of o.place) (object_part g.classes table o)) g.objects
 
 abbrev pub written_with : List (List ℕ) → Graph → (ℕ → ℕ) → List TopRecord
-written_with ss g table = front ss g ++ segments ss (items ss g table) ++ dump_end ∷ []
+written_with ss g table = front_of ss g.classes ++ segments ss (items ss g table) ++ dump_end ∷ []
 
 -- the records of a dump: the strings, the classes, the stack trace, the segments, the end
 abbrev pub written : Graph → (ℕ → ℕ) → List TopRecord
