@@ -5,7 +5,6 @@ ghost use Rattle.hprof_records.specs.declared.sub_record.SubRecord.TheVariants.{
 ghost use Rattle.hprof_records.specs.Parts.{bytes_of_part, field_name_bytes};
 ghost use Rattle.hprof_write.specs.Classes.{array_class_dump, class_dump, class_id, field_entry, kind_code, parent_id};
 
-use crate::DumpError;
 use crate::fields::put_words;
 use crate::strings::string_id;
 use class_layout::{Classes, FieldDecl, Kind, Name};
@@ -45,7 +44,7 @@ pub(crate) fn put_class(
     strings: &IndexSet<Name>,
     classes: &Classes,
     class: u32,
-) -> Result<(), DumpError>
+) -> Result<(), AllocError>
     requires { class < length classes.now }
     ensures { OnOk result (IsSomeAnd (slice_get classes.now class) (λ c. out.new.items ≡ out.old.items ++ bytes_of_part (class_dump strings.now.keys classes.now class c))) }
 {
@@ -82,15 +81,18 @@ fn put_class_parts(
     parent: u32,
     size: u32,
     fields: &[FieldDecl],
-) -> Result<(), DumpError>
+) -> Result<(), AllocError>
     ensures { OnOk result (out.new.items ≡ out.old.items ++ bytes_of_part (ClassDump id 0 parent 0 0 0 0 0 size [] [] (map (field_entry strings.now.keys) fields.now))) }
 {
-    let count = u16::try_from(fields.len()).map_err(|_| DumpError::OutOfMemory)?;
+    if fields.len() > u16::MAX as usize {
+        return Err(AllocError);
+    }
     put_u8(out, 0x20)?;
     put_words(out, &[id, 0, parent, 0, 0, 0, 0, 0, size])?;
     put_words(out, &[0])?;
-    put_u16(out, count)?;
-    put_field_names(out, strings, fields)
+    put_u16(out, fields.len() as u16)?;
+    put_field_names(out, strings, fields)?;
+    Ok(())
 }
 
 // The fields of a class: their names and their types.
@@ -98,7 +100,7 @@ fn put_field_names(
     out: &mut Vec<u8>,
     strings: &IndexSet<Name>,
     fields: &[FieldDecl],
-) -> Result<(), DumpError>
+) -> Result<(), AllocError>
     ensures { OnOk result (out.new.items ≡ out.old.items ++ flat_map field_name_bytes (map (field_entry strings.now.keys) fields.now)) }
 {
     for f in fields {

@@ -137,7 +137,8 @@ fn put_loads<F: Shelf>(
         put_piece(shelf, waiting)?;
     }
     let name = Name::of(b"java.lang.Object[]").unwrap();
-    put_load(waiting, strings, count + 1, ARRAY_CLASS, &name)
+    put_load(waiting, strings, count + 1, ARRAY_CLASS, &name)?;
+    Ok(())
 }
 
 // The segments: the roots, the classes, the objects.

@@ -5,7 +5,6 @@ ghost use Rattle.hprof_records.specs.Records.{bytes_of_record, header_bytes};
 ghost use Rattle.hprof_write.specs.Classes.{class_id, load_record};
 ghost use Rattle.hprof_write.specs.Written.{no_trace};
 
-use crate::DumpError;
 use crate::fields::put_words;
 use crate::strings::string_id;
 use class_layout::Name;
@@ -40,7 +39,7 @@ pub(crate) fn put_load(
     serial: u32,
     id: u32,
     name: &Name,
-) -> Result<(), DumpError>
+) -> Result<(), AllocError>
     ensures { OnOk result (out.new.items ≡ out.old.items ++ bytes_of_record (load_record strings.now.keys serial id name.now)) }
 {
     let text = string_id(strings, name)?;

@@ -6,16 +6,16 @@ ghost use Rattle.heap_graph.specs.Graph.{size_of_object, Object};
 ghost use Rattle.heap_graph.specs.Table.{in_spot_window};
 ghost use Rattle.object_view.specs.Objects.{elements_from};
 ghost use Rattle.object_view.specs.Seen.{count_if, heap_of, is_in_window, seen_of, RoseBy};
+ghost use Rattle.hprof_records.specs.declared.sub_record.SubRecord.TheVariants.{Instance};
 ghost use Rattle.hprof_records.specs.Parts.{bytes_of_part};
 ghost use Rattle.hprof_write.specs.Objects.{array_head, dumped_places, object_part, shape_part, HasValues};
 ghost use Rattle.hprof_write.specs.Reads.{object_values};
 ghost use Rattle.hprof_write.specs.Segments.{with_heap, with_object, Filling, IsCurrent};
 
-use crate::DumpError;
 use crate::class_dump::{ARRAY_CLASS, class_id, kind_code};
 use crate::fields::put_words;
 use crate::segment::Current;
-use crate::values::{put_elements, put_fields};
+use crate::values::{dumped_places, put_elements, put_places};
 use class_layout::{Kind, Name};
 use cow_pages::Addr;
 use hprof_records::put_u8;
@@ -30,7 +30,7 @@ pub(crate) fn put_object<V: HeapView>(
     strings: &IndexSet<Name>,
     current: &mut Current,
     seen: &Seen,
-) -> Result<(), DumpError>
+) -> Result<(), AllocError>
     requires { (o : Object) × IsIn o (V.graph view.old).objects × (seen.now ≡ seen_of (V.table view.old) o) }
     ensures ok { OnOk result ((o : Object) (f : Filling) → IsIn o (V.graph view.old).objects → seen.now ≡ seen_of (V.table view.old) o
         → IsCurrent f current.old.body.items current.old.objects current.old.heap
@@ -44,7 +44,7 @@ pub(crate) fn put_object<V: HeapView>(
     let objects = current
         .objects
         .checked_add(1)
-        .ok_or(DumpError::OutOfMemory)?;
+        .ok_or(AllocError)?;
     current.put_heap(strings, seen.heap)?;
     put_shape(alloc, view, &mut current.body, seen.at, seen.shape)?;
     current.objects = objects;
@@ -58,7 +58,7 @@ fn put_shape<V: HeapView>(
     out: &mut Vec<u8>,
     at: Addr,
     shape: Shape,
-) -> Result<(), DumpError>
+) -> Result<(), AllocError>
     requires { (o : Object) × IsIn o (V.graph view.old).objects × ((V.table view.old) o.number ≡ at.0) × (o.shape ≡ shape) }
     ensures ok { OnOk result ((o : Object) → IsIn o (V.graph view.old).objects → (V.table view.old) o.number ≡ at.0 → o.shape ≡ shape
         → out.new.items ≡ out.old.items ++ bytes_of_part (shape_part (V.graph view.old).classes (V.table view.old) o shape)) }
@@ -84,7 +84,7 @@ fn put_instance<V: HeapView>(
     out: &mut Vec<u8>,
     at: Addr,
     class: u32,
-) -> Result<(), DumpError>
+) -> Result<(), AllocError>
     requires class { class < length (V.graph view.old).classes }
     requires object { (o : Object) × HasValues (V.graph view.old) (V.table view.old) at.0 (dumped_places (V.graph view.old).classes class) o }
     ensures ok { OnOk result ((o : Object) → HasValues (V.graph view.old) (V.table view.old) at.0 (dumped_places (V.graph view.old).classes class) o
@@ -94,12 +94,27 @@ fn put_instance<V: HeapView>(
     ensures reads { RoseBy (count_if (is_in_window at.0) (length (dumped_places (V.graph view.old).classes class))) (V.read_count view.old) (V.read_count view.new) }
 {
     let _all = view.classes().count();
+    let places = dumped_places(alloc, view.classes(), class)?;
     let mut values = Vec::new(alloc);
-    put_fields(view, &mut values, at, class)?;
-    let length = u32::try_from(values.len()).map_err(|_| DumpError::OutOfMemory)?;
+    put_places(view, &mut values, at, &places)?;
+    put_instance_part(out, at, class_id(class), &values)
+}
+
+// An instance of the class of an identifier, with the bytes of its values.
+fn put_instance_part(
+    out: &mut Vec<u8>,
+    at: Addr,
+    class: u32,
+    values: &[u8],
+) -> Result<(), AllocError>
+    ensures { OnOk result (out.new.items ≡ out.old.items ++ bytes_of_part (Instance at.0 0 class values.now)) }
+{
+    if values.len() > u32::MAX as usize {
+        return Err(AllocError);
+    }
     put_u8(out, 0x21)?;
-    put_words(out, &[at.0, 0, class_id(class), length])?;
-    out.extend_from_slice(&values)?;
+    put_words(out, &[at.0, 0, class, values.len() as u32])?;
+    out.extend_from_slice(values)?;
     Ok(())
 }
 

@@ -14,7 +14,7 @@ use class_layout::Name;
 use hprof_records::put_u8;
 use indexmap::IndexSet;
 use object_view::Heap;
-use std::alloc::Global;
+use std::alloc::{AllocError, Global};
 
 // A segment of as many bytes or objects takes no more.
 const FULL_BYTES: usize = 4096;
@@ -62,7 +62,7 @@ impl Current {
         &mut self,
         strings: &IndexSet<Name>,
         heap: Heap,
-    ) -> Result<(), DumpError>
+    ) -> Result<(), AllocError>
         ensures told { OnOk result ((f : Filling) → IsCurrent f self.old.body.items self.old.objects self.old.heap
             → IsCurrent (with_heap strings.now.keys heap f) self.new.body.items self.new.objects self.new.heap) }
         ensures objects { self.new.objects ≡ self.old.objects }
@@ -101,10 +101,10 @@ fn heap_name(heap: Heap) -> Name
 }
 
 /// Appends the record of the current segment to what waits.
-fn put_segment(out: &mut Vec<u8>, current: &Current) -> Result<(), DumpError>
+fn put_segment(out: &mut Vec<u8>, current: &Current) -> Result<(), AllocError>
     ensures { OnOk result ((f : Filling) → IsCurrent f current.now.body.items current.now.objects current.now.heap → out.new.items ≡ out.old.items ++ bytes_of_record (segment f.parts)) }
 {
-    let length = u32::try_from(current.body.len()).map_err(|_| DumpError::OutOfMemory)?;
+    let length = u32::try_from(current.body.len()).map_err(|_| AllocError)?;
     put_u8(out, 0x1c)?;
     put_words(out, &[0, length])?;
     out.extend_from_slice(&current.body)?;

@@ -2,7 +2,6 @@
 ghost use Rattle.std.specs.Prelude.{◌≡◌, ◌∷◌, fold, length, map, IfOk, OnOk};
 ghost use Rattle.hprof_write.specs.Strings.{string_id, strings, with_text};
 
-use crate::DumpError;
 use class_layout::{Classes, FieldDecl, Name};
 use indexmap::IndexSet;
 use std::alloc::{AllocError, Global};
@@ -41,14 +40,14 @@ fn add_class(
     Ok(())
 }
 
-/// The identifier of a text.
-pub(crate) fn string_id(strings: &IndexSet<Name>, text: &Name) -> Result<u32, DumpError>
+/// The identifier of a text. It has 32 bits, as far as there is memory for the texts.
+pub(crate) fn string_id(strings: &IndexSet<Name>, text: &Name) -> Result<u32, AllocError>
     ensures { IfOk result (λ id. id ≡ string_id strings.now.keys text.now) }
 {
     let index = strings.get_index_of(text).unwrap_or(0);
     if index < u32::MAX as usize {
         Ok(index as u32 + 1)
     } else {
-        Err(DumpError::OutOfMemory)
+        Err(AllocError)
     }
 }

@@ -14,5 +14,5 @@ load-bytes o a b serial id t s e ha hb =
 
 pub returns : goal.returns
 returns c =
-    load-bytes c.args.out.now.items c.put_u8.new.out.items c.put_words.new.out.items c.args.serial c.args.id c.in_ok-text.field-0
+    load-bytes c.args.out.now.items c.put_u8.new.out.items c.put_words.new.out.items c.args.serial c.args.id c.in_ok-text.text
     (string_id c.args.strings.now.keys c.args.name.now) c.in_ok-text.ensures c.in_ok-put_u8.ensures.appended c.in_ok-put_words.ensures
