@@ -1,5 +1,5 @@
 -- Classes and their superclasses.
-use Rattle.std.proofs.Common.{◌≡◌, ℕ, zero, suc, ◌+◌, ◌<◌, ◌≤◌, List, [], ◌∷◌, ◌++◌, Option, Some, None, length, map, refl, sym, ap, ◌∙◌, subst, append_assoc, arith}
+use Rattle.std.proofs.Common.{◌≡◌, ℕ, zero, suc, ◌+◌, ◌<◌, ◌≤◌, List, [], ◌∷◌, ◌++◌, Option, Some, None, length, map, refl, sym, ap, ◌∙◌, subst, append_assoc, arith, inl, inr, ◌⊎◌, ⊎_elim}
 use Rattle.std.proofs.lemmas.Option.{slice_get_within}
 use Rattle.std.proofs.lemmas.List.{append-nil}
 use Rattle.std.specs.List.{slice_get}
@@ -7,6 +7,7 @@ use Rattle.std.specs.Prelude.{unwrap_or}
 use Rattle.std.specs.Option.{IfSome, IsSomeAnd}
 use Rattle.class_layout.specs.declared.kind.FieldAt.{FieldAt}
 use Rattle.class_layout.specs.declared.kind.FieldDecl.{FieldDecl}
+use Rattle.class_layout.specs.Placing.{IsIn}
 use Rattle.class_layout.specs.ClassList.{Class, IsClassList, IsEarlier, layout_of}
 use Rattle.hprof_records.specs.declared.sub_record.SubRecord.{SubRecord}
 use Rattle.hprof_records.specs.declared.sub_record.SubRecord.TheVariants.{ClassDump}
@@ -66,19 +67,19 @@ is-parent : (o : Option (Option ℕ)) (p : ℕ) → unwrap_or o None ≡ Some p 
 is-parent None p h = cc
 is-parent (Some q) p h = ap (λ x. Some x) h
 
+enough-parent : (cs : List Class) (n m k : ℕ) → IsClassList cs → k < suc n → k < suc m → ((p : ℕ) → p < n → p < m → places_up cs n (Some p) ≡ places_up cs m (Some p))
+    → (q : Option ℕ) → parent_of cs k ≡ q → places_up cs n q ≡ places_up cs m q
+enough-parent cs n m k formed a b up None e = none-up cs n ∙ sym (none-up cs m)
+enough-parent cs n m k formed a b up (Some p) e =
+    let less = parent-earlier cs k p formed (is-parent (slice_get (map (λ (c : Class). c.parent) cs) k) p e) in
+    up p (omega arith) (omega arith)
+
 -- any number of classes is enough that is greater than the class's number
 pub enough-up : (cs : List Class) (n m k : ℕ) → IsClassList cs → k < n → k < m → places_up cs n (Some k) ≡ places_up cs m (Some k)
 enough-up cs zero m k formed a b = absurd (omega arith)
 enough-up cs (suc n) zero k formed a b = absurd (omega arith)
-enough-up cs (suc n) (suc m) k formed a b = ap (λ l. own_places cs k ++ l) (next (parent_of cs k) refl)
-  where
-    next : (q : Option ℕ) → parent_of cs k ≡ q → places_up cs n q ≡ places_up cs m q
-    next None e = none-up cs n ∙ sym (none-up cs m)
-    next (Some p) e =
-      let less = parent-earlier cs k p formed (is-parent (slice_get (map (λ (c : Class). c.parent) cs) k) p e) in
-      let x : p < n = omega arith in
-      let y : p < m = omega arith in
-      enough-up cs n m p formed x y
+enough-up cs (suc n) (suc m) k formed a b =
+    ap (λ l. own_places cs k ++ l) (enough-parent cs n m k formed a b (λ p x y. enough-up cs n m p formed x y) (parent_of cs k) refl)
 
 -- a class's own places were taken, and those of its superclass are left
 pub up-more : (cs : List Class) (k p : ℕ) (before now whole : List FieldAt) → IsClassList cs → slice_get (map (λ c. c.parent) cs) k ≡ Some (Some p)
@@ -99,3 +100,15 @@ up-end cs k before now whole h e f =
     f ∙ ap (λ l. before ++ l) (sym (append-nil (own_places cs k)))
     ∙ ap (λ l. before ++ (own_places cs k ++ l)) (sym (none-up cs k))
     ∙ ap (λ (x : Option ℕ). before ++ (own_places cs k ++ places_up cs k x)) (sym q) ∙ e
+
+IsIn-append : {X : Type 0} (xs ys : List X) (x : X) → IsIn x (xs ++ ys) → IsIn x xs ⊎ IsIn x ys
+IsIn-append [] ys x h = inr h
+IsIn-append (y ∷ xs) ys x (inl e) = inl (inl e)
+IsIn-append (y ∷ xs) ys x (inr h) = ⊎_elim (λ a. inl (inr a)) (λ b. inr b) (IsIn-append xs ys x h)
+
+-- the places of a list and of one more all are an object's
+pub within-more : (Q : FieldAt → Type 0) (xs ys zs : List FieldAt) → zs ≡ xs ++ ys → ((p : FieldAt) → IsIn p xs → Q p) → ((p : FieldAt) → IsIn p ys → Q p)
+    → (p : FieldAt) → IsIn p zs → Q p
+within-more Q xs ys zs e f g p h =
+    ⊎_elim (λ a. f p a) (λ b. g p b) (IsIn-append xs ys p (subst (λ (l : List FieldAt). IsIn p l) e h))
+

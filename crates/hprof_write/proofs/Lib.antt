@@ -4,3 +4,4 @@ pub mod RecordBytes
 pub mod Chains
 pub mod Fillings
 pub mod ValuesAt
+pub mod RecordRuns

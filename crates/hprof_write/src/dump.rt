@@ -161,7 +161,7 @@ fn put_segments<V: HeapView, F: Shelf>(
     ensures reads { RoseBy (dump_reads (V.graph view.old)) (V.read_count view.old) (V.read_count view.new) }
 {
     let mut current = Current::new(alloc);
-    put_roots(view, strings, shelf, waiting, &mut current)?;
+    put_roots(view, shelf, waiting, &mut current)?;
     put_classes(view.classes(), strings, shelf, waiting, &mut current)?;
     put_objects(alloc, view, strings, shelf, waiting, &mut current)?;
     close(shelf, waiting, &mut current)
@@ -170,19 +170,18 @@ fn put_segments<V: HeapView, F: Shelf>(
 // The roots that aren't null.
 fn put_roots<V: HeapView, F: Shelf>(
     view: &V,
-    strings: &IndexSet<Name>,
     shelf: &mut F,
     waiting: &mut Vec<u8>,
     current: &mut Current,
 ) -> Result<(), DumpError>
     requires { (F.shelved shelf.old).unfinished ≡ true }
-    ensures ok { OnOk result ((start : Shelved) (front : List ℕ) (f : Filling) → IsFilled start front f waiting.old.items (F.shelved shelf.old)
+    ensures ok { OnOk result ((ss : List (List ℕ)) (start : Shelved) (front : List ℕ) (f : Filling) → IsFilled start front f waiting.old.items (F.shelved shelf.old)
         → IsCurrent f current.old.body.items current.old.objects current.old.heap
-        → let filled = fold (with_item strings.now.keys) f (map Bare (root_parts (V.table view.now) (V.graph view.now).roots)) in
+        → let filled = fold (with_item ss) f (map Bare (root_parts (V.table view.now) (V.graph view.now).roots)) in
             IsFilled start front filled waiting.new.items (F.shelved shelf.new) × IsCurrent filled current.new.body.items current.new.objects current.new.heap) }
-    ensures failed { OnErr result ((start : Shelved) (front : List ℕ) (f : Filling) → IsFilled start front f waiting.old.items (F.shelved shelf.old)
+    ensures failed { OnErr result ((ss : List (List ℕ)) (start : Shelved) (front : List ℕ) (f : Filling) → IsFilled start front f waiting.old.items (F.shelved shelf.old)
         → IsCurrent f current.old.body.items current.old.objects current.old.heap
-        → AppendedPrefix start (front ++ bytes_of_records (fold (with_item strings.now.keys) f (map Bare (root_parts (V.table view.now) (V.graph view.now).roots))).done) (F.shelved shelf.new)) }
+        → AppendedPrefix start (front ++ bytes_of_records (fold (with_item ss) f (map Bare (root_parts (V.table view.now) (V.graph view.now).roots))).done) (F.shelved shelf.new)) }
     ensures unfinished { OnOk result ((F.shelved shelf.new).unfinished ≡ true) }
     ensures cause { IfShelfFault result (FaultRose (F.fault_count shelf.old) (F.fault_count shelf.new)) }
     ensures never_falls { F.fault_count shelf.old ≤ F.fault_count shelf.new }

@@ -8,7 +8,7 @@ ghost use Rattle.object_view.specs.Objects.{elements_from};
 ghost use Rattle.object_view.specs.Seen.{count_if, heap_of, is_in_window, seen_of, RoseBy};
 ghost use Rattle.hprof_records.specs.declared.sub_record.SubRecord.TheVariants.{Instance};
 ghost use Rattle.hprof_records.specs.Parts.{bytes_of_part};
-ghost use Rattle.hprof_write.specs.Objects.{array_head, dumped_places, object_part, shape_part, HasValues};
+ghost use Rattle.hprof_write.specs.Objects.{array_head, dumped_places, object_part, shape_part};
 ghost use Rattle.hprof_write.specs.Reads.{object_values};
 ghost use Rattle.hprof_write.specs.Segments.{with_heap, with_object, Filling, IsCurrent};
 
@@ -86,8 +86,8 @@ fn put_instance<V: HeapView>(
     class: u32,
 ) -> Result<(), AllocError>
     requires class { class < length (V.graph view.old).classes }
-    requires object { (o : Object) × HasValues (V.graph view.old) (V.table view.old) at.0 (dumped_places (V.graph view.old).classes class) o }
-    ensures ok { OnOk result ((o : Object) → HasValues (V.graph view.old) (V.table view.old) at.0 (dumped_places (V.graph view.old).classes class) o
+    requires object { (o : Object) × IsIn o (V.graph view.old).objects × ((V.table view.old) o.number ≡ at.0) × (o.shape ≡ Shape.Instance class) }
+    ensures ok { OnOk result ((o : Object) → IsIn o (V.graph view.old).objects → (V.table view.old) o.number ≡ at.0 → o.shape ≡ Shape.Instance class
         → out.new.items ≡ out.old.items ++ bytes_of_part (shape_part (V.graph view.old).classes (V.table view.old) o (Shape.Instance class))) }
     ensures given { V.given view.new ≡ V.given view.old }
     ensures same { V.same view.old view.new }

@@ -4,7 +4,7 @@ use Rattle.hprof_write.proofs.values.dumped_places.Given as goal
 
 abbrev pub invariant-loop-places : goal.invariant-loop-places
 invariant-loop-places l = record {
-  within : l.at < length l.classes;
+  known : l.at < length l.classes;
   places : l.places.items ++ places_up l.classes (suc l.at) (Some l.at) ≡ dumped_places l.classes l.fn.class;
 }
 

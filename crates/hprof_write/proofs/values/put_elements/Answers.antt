@@ -1,4 +1,4 @@
-use Rattle.std.proofs.Common.{◌≡◌, ◌∙◌, ℕ, ◌<◌, ◌≤◌, ◌++◌, length, take, refl, arith, ap}
+use Rattle.std.proofs.Common.{◌≡◌, ◌∙◌, ℕ, false, ◌<◌, ◌≤◌, ◌++◌, length, take, refl, arith, ap}
 use Rattle.std.proofs.lemmas.List.{take_all}
 use Rattle.class_layout.specs.declared.kind.FieldAt.{FieldAt}
 use Rattle.object_view.specs.Objects.{elements_from}

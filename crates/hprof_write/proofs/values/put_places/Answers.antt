@@ -1,4 +1,4 @@
-use Rattle.std.proofs.Common.{◌∙◌, ◌<◌, length, get_or, arith}
+use Rattle.std.proofs.Common.{◌∙◌, false, ◌<◌, length, get_or, arith}
 use Rattle.class_layout.specs.declared.kind.Kind.TheVariants.{Ref}
 use Rattle.class_layout.specs.declared.kind.FieldAt.{FieldAt}
 use Rattle.object_view.specs.Seen.{is_in_window}
