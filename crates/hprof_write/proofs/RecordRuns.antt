@@ -1,17 +1,19 @@
 -- Records that are put one after another.
-use Rattle.std.proofs.Common.{◌≡◌, ℕ, zero, suc, ◌+◌, ◌<◌, ◌≤◌, List, [], ◌∷◌, ◌++◌, Option, Some, None, length, take, drop, refl, sym, ap, ◌∙◌, subst, append_assoc, add-one, arith}
+use Rattle.std.proofs.Common.{◌≡◌, ℕ, zero, suc, ◌+◌, ◌<◌, ◌≤◌, List, [], ◌∷◌, ◌++◌, Option, Some, None, length, take, drop, map, refl, zero-add, sym, ap, ◌∙◌, subst, append_assoc, add-one, arith}
 use Rattle.std.proofs.lemmas.List.{append-nil, take-append-drop}
 use Rattle.std.proofs.lemmas.Grind.{flat_map-append}
 use Rattle.std.specs.List.{slice_get}
+use Rattle.std.specs.Option.{IsSomeAnd}
 use Rattle.ah_outside.specs.Outside.{Shelved}
 use Rattle.class_layout.specs.ClassList.{Class}
 use Rattle.hprof_records.specs.declared.top_record.TopRecord.{TopRecord}
 use Rattle.hprof_records.specs.declared.top_record.TopRecord.TheVariants.{Text}
 use Rattle.hprof_records.specs.Records.{bytes_of_record, bytes_of_records}
-use Rattle.hprof_write.specs.Classes.{class_id, load_record, loads_from}
+use Rattle.hprof_write.specs.Classes.{array_class_id, class_id, load_record, load_records, loads_from}
 use Rattle.hprof_write.specs.Outcomes.{AppendedBut, AppendedPrefix}
-use Rattle.hprof_write.specs.Strings.{text_records}
+use Rattle.hprof_write.specs.Strings.{array_name, text_records}
 use Rattle.hprof_write.proofs.Appends.{AppendedBut-more, AppendedBut-stopped, AppendedPrefix-more}
+use Rattle.hprof_write.proofs.Chains.{at-map}
 use Rattle.hprof_write.proofs.Fillings.{records-more}
 use Rattle.hprof_write.proofs.TableLines.{take-more}
 
@@ -73,3 +75,29 @@ pub loads-split : (ss : List (List ℕ)) (from : ℕ) (cs : List Class) (k : ℕ
 loads-split ss from cs zero = (loads_from ss from cs, refl)
 loads-split ss from [] (suc k) = ([], refl)
 loads-split ss from (c ∷ cs) (suc k) = let (more, e) = loads-split ss (from + 1) cs k in (more, ap (λ l. load_record ss (from + 1) (class_id from) c.name ∷ l) e)
+
+-- one more string, by its number
+pub text-next : (ss : List (List ℕ)) (k : ℕ) (s : List ℕ) → slice_get ss k ≡ Some s → text_records 1 (take (k + 1) ss) ≡ text_records 1 (take k ss) ++ Text 0 (k + 1) s ∷ []
+text-next ss k s h =
+    let n : 1 + k ≡ k + 1 = omega arith in
+    ap (λ m. text_records 1 (take m ss)) (add-one k) ∙ texts-more 1 ss k s h ∙ ap (λ m. text_records 1 (take k ss) ++ Text 0 m s ∷ []) n
+
+-- one more class, by its number
+pub load-next : (ss : List (List ℕ)) (cs : List Class) (k id : ℕ) (name : List ℕ) → slice_get (map (λ c. c.name) cs) k ≡ Some name → id ≡ class_id k
+    → loads_from ss 0 (take (k + 1) cs) ≡ loads_from ss 0 (take k cs) ++ load_record ss (k + 1) id name ∷ []
+load-next ss cs k id name h e =
+    ap (λ m. loads_from ss 0 (take m cs)) (add-one k) ∙ at (slice_get cs k) refl (at-map (λ (c : Class). c.name) cs k name h)
+    ∙ ap (λ m. loads_from ss 0 (take k cs) ++ load_record ss (m + 1) (class_id m) name ∷ []) (zero-add k)
+    ∙ ap (λ i. loads_from ss 0 (take k cs) ++ load_record ss (k + 1) i name ∷ []) (sym e)
+  where
+    at : (x : Option Class) → slice_get cs k ≡ x → IsSomeAnd x (λ c. c.name ≡ name)
+        → loads_from ss 0 (take (suc k) cs) ≡ loads_from ss 0 (take k cs) ++ load_record ss (0 + k + 1) (class_id (0 + k)) name ∷ []
+    at None e is = absurd is
+    at (Some c) e is = loads-more ss 0 cs k c e ∙ ap (λ (n : List ℕ). loads_from ss 0 (take k cs) ++ load_record ss (0 + k + 1) (class_id (0 + k)) n ∷ []) is
+
+-- the classes so far are the first ones of all that are loaded
+pub loads-all : (ss : List (List ℕ)) (cs : List Class) (k : ℕ) → (more : List TopRecord) × (load_records ss cs ≡ loads_from ss 0 (take k cs) ++ more)
+loads-all ss cs k =
+    let (more, e) = loads-split ss 0 cs k in
+    (more ++ load_record ss (length cs + 1) array_class_id array_name ∷ [],
+      ap (λ l. l ++ load_record ss (length cs + 1) array_class_id array_name ∷ []) e ∙ append_assoc (loads_from ss 0 (take k cs)) more (load_record ss (length cs + 1) array_class_id array_name ∷ []))
