@@ -1,5 +1,5 @@
 -- Bytes that are appended one after another.
-use Rattle.std.proofs.Common.{◌≡◌, ℕ, ◌+◌, ◌≤◌, List, [], ◌∷◌, ◌++◌, Option, Some, None, length, take, drop, refl, sym, ap, ◌∙◌, subst, append_assoc, arith}
+use Rattle.std.proofs.Common.{◌≡◌, ℕ, ◌+◌, List, [], ◌∷◌, ◌++◌, Option, Some, None, length, take, drop, refl, sym, ap, ◌∙◌, subst, append_assoc}
 use Rattle.std.proofs.lemmas.List.{append-nil, take-append-drop}
 use Rattle.std.proofs.Math.Seq.{take-append_seam, take-append-add}
 use Rattle.std.specs.List.{concat}
@@ -74,7 +74,7 @@ pub AppendedPrefix-more : (a b : Shelved) (bytes more : List ℕ) → AppendedPr
 AppendedPrefix-more a b bytes more (n, h) =
     let whole : take n bytes ++ (drop n bytes ++ more) ≡ bytes ++ more = sym (append_assoc (take n bytes) (drop n bytes) more) ∙ ap (λ l. l ++ more) (take-append-drop n bytes) in
     let e : take (length (take n bytes)) (bytes ++ more) ≡ take n bytes =
-        ap (take (length (take n bytes))) (sym whole) ∙ take-append_seam (take n bytes) (drop n bytes ++ more) in
+    ap (take (length (take n bytes))) (sym whole) ∙ take-append_seam (take n bytes) (drop n bytes ++ more) in
     (length (take n bytes), subst (λ l. Appended a l b) (sym e) h)
 
 -- five appends are one

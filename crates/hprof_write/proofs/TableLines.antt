@@ -1,12 +1,12 @@
 -- The walk over the objects of a view: the lines and the reads so far.
-use Rattle.std.proofs.Common.{◌≡◌, ℕ, zero, suc, ◌+◌, ◌<◌, ◌≤◌, Bool, true, false, ◌||◌, List, [], ◌∷◌, ◌++◌, Option, Some, None, length, take, drop, sum_by, refl, sym, ap, ◌∙◌, subst, arith, add-one, cond}
+use Rattle.std.proofs.Common.{◌≡◌, ℕ, zero, suc, ◌+◌, ◌≤◌, Bool, true, false, ◌||◌, List, [], ◌∷◌, ◌++◌, Option, Some, None, take, drop, sum_by, refl, sym, ap, ◌∙◌, subst, arith}
 use Rattle.std.proofs.lemmas.List.{append-nil, take-append-drop}
 use Rattle.std.proofs.lemmas.Grind.{flat_map-append}
 use Rattle.std.proofs.lemmas.List.Sums.{sum_by-cons}
 use Rattle.std.specs.List.{flat_map, slice_get}
 use Rattle.std.specs.Option.{IsSomeAnd}
 use Rattle.std.specs.Result.{OnErr}
-use Rattle.std.specs.Prelude.{Result, Ok, Err, ⊤}
+use Rattle.std.specs.Prelude.{Result, Ok, Err}
 use Rattle.ah_outside.specs.Outside.{Shelved}
 use Rattle.heap_graph.specs.Graph.{Object}
 use Rattle.heap_graph.specs.Table.{in_spot_window}
@@ -59,17 +59,17 @@ begin-within (o ∷ os) = begin-by o os (in_spot_window o.place) refl (begin-wit
         → (steps_reads os ≤ sum_by walk_reads os) × (count_if (has_spots os) 3 + steps_reads os ≤ sum_by walk_reads os)
         → (steps_reads (o ∷ os) ≤ sum_by walk_reads (o ∷ os)) × (count_if (has_spots (o ∷ os)) 3 + steps_reads (o ∷ os) ≤ sum_by walk_reads (o ∷ os))
     begin-by o os true e (a, b) =
-      let t : sum_by walk_reads (o ∷ os) ≡ walk_reads o + sum_by walk_reads os = sum_by-cons walk_reads o os in
-      let w : walk_reads o ≡ 6 = ap (λ x. count_if x 6) e in
-      let s : step_reads (Some o) ≡ 3 = ap (λ x. count_if x 3) e in
-      let h : count_if (has_spots (o ∷ os)) 3 ≡ 3 = ap (λ x. count_if (x || has_spots os) 3) e in
-      (omega arith, omega arith)
+        let t : sum_by walk_reads (o ∷ os) ≡ walk_reads o + sum_by walk_reads os = sum_by-cons walk_reads o os in
+        let w : walk_reads o ≡ 6 = ap (λ x. count_if x 6) e in
+        let s : step_reads (Some o) ≡ 3 = ap (λ x. count_if x 3) e in
+        let h : count_if (has_spots (o ∷ os)) 3 ≡ 3 = ap (λ x. count_if (x || has_spots os) 3) e in
+        (omega arith, omega arith)
     begin-by o os false e (a, b) =
-      let t : sum_by walk_reads (o ∷ os) ≡ walk_reads o + sum_by walk_reads os = sum_by-cons walk_reads o os in
-      let w : walk_reads o ≡ 0 = ap (λ x. count_if x 6) e in
-      let s : step_reads (Some o) ≡ 0 = ap (λ x. count_if x 3) e in
-      let h : count_if (has_spots (o ∷ os)) 3 ≡ count_if (has_spots os) 3 = ap (λ x. count_if (x || has_spots os) 3) e in
-      (omega arith, omega arith)
+        let t : sum_by walk_reads (o ∷ os) ≡ walk_reads o + sum_by walk_reads os = sum_by-cons walk_reads o os in
+        let w : walk_reads o ≡ 0 = ap (λ x. count_if x 6) e in
+        let s : step_reads (Some o) ≡ 0 = ap (λ x. count_if x 3) e in
+        let h : count_if (has_spots (o ∷ os)) 3 ≡ count_if (has_spots os) 3 = ap (λ x. count_if (x || has_spots os) 3) e in
+        (omega arith, omega arith)
 
 pub IsWalked-within : (os : List Object) (k before now : ℕ) → IsWalked os k before now → RoseBy (sum_by walk_reads os) before now
 IsWalked-within os k before now h =
@@ -114,14 +114,14 @@ walk-more table os k before mid now seen is h r = step-by (slice_get os k) refl 
     step-by None e is r = absurd is
     step-by (Some o) e is r = record {
       walked = walked-at os k before mid now o e h r;
-      line = lines-at table os k o e ∙ ap (λ (s : Seen). lines table (take k os) ++ table_line s.number s.at.0) (sym is)
+      line = lines-at table os k o e ∙ ap (λ (s : Seen). lines table (take k os) ++ table_line s.number s.at.0) (sym is);
     }
 
 -- the lines so far are the first ones
 pub lines-prefix : (table : ℕ → ℕ) (os : List Object) (k : ℕ) (a b : Shelved) → AppendedPrefix a (lines table (take k os)) b → AppendedPrefix a (lines table os) b
 lines-prefix table os k a b h =
     let e : lines table (take k os) ++ lines table (drop k os) ≡ lines table os =
-        sym (flat_map-append (λ p. table_line p.number (table p.number)) (take k os) (drop k os)) ∙ ap (lines table) (take-append-drop k os) in
+    sym (flat_map-append (λ p. table_line p.number (table p.number)) (take k os) (drop k os)) ∙ ap (lines table) (take-append-drop k os) in
     subst (λ l. AppendedPrefix a l b) e (AppendedPrefix-more a b (lines table (take k os)) (lines table (drop k os)) h)
 
 -- one more line waits

@@ -1,5 +1,5 @@
 -- Small dumps to compute with.
-use Rattle.std.specs.Prelude.{ℕ, zero, suc, ◌+◌, ◌*◌, true, false, List, [], ◌∷◌, ◌++◌, Some, codes, map, pos}
+use Rattle.std.specs.Prelude.{ℕ, zero, suc, ◌+◌, ◌*◌, true, false, List, [], ◌∷◌, ◌++◌, Some, codes, pos}
 use Rattle.class_layout.specs.declared.kind.Kind.TheVariants.{Byte, Int}
 use Rattle.class_layout.specs.ClassList.{Class, builtin_classes}
 use Rattle.heap_graph.specs.declared.names.Held.TheVariants as held
@@ -47,6 +47,10 @@ two_classes =
 -- an object of class 3 whose int is 1 and whose byte is 2
 abbrev pub one_of_each : Object
 one_of_each =
-    record { number = 1; shape = Instance 3; place = Image image_base;
+    record {
+      number = 1;
+      shape = Instance 3;
+      place = Image image_base;
       slots = record { at = record { kind = Int; offset = 8; weak = false }; value = Number (pos 1) }
-        ∷ record { at = record { kind = Byte; offset = 12; weak = false }; value = Number (pos 2) } ∷ [] }
+          ∷ record { at = record { kind = Byte; offset = 12; weak = false }; value = Number (pos 2) } ∷ [];
+    }

@@ -1,5 +1,5 @@
 -- The objects of a dump, and its roots.
-use Rattle.std.specs.Prelude.{◌≡◌, ℕ, zero, suc, ◌+◌, Bool, true, false, List, [], ◌∷◌, ◌++◌, Option, None, Some, map, slice_get, unwrap_or, ℤ}
+use Rattle.std.specs.Prelude.{◌≡◌, ℕ, zero, suc, Bool, true, false, List, [], ◌∷◌, ◌++◌, Option, None, Some, map, slice_get, unwrap_or, ℤ}
 use Rattle.std.specs.Int.{w64, cast_unsigned}
 use Rattle.std.specs.List.{concat, flat_map}
 use Rattle.class_layout.specs.declared.kind.FieldAt.{FieldAt}

@@ -1,5 +1,5 @@
 -- The strings of a dump: one for each different text.
-use Rattle.std.specs.Prelude.{ℕ, ◌+◌, if◌then◌else◌, List, [], ◌∷◌, ◌++◌, None, codes, fold, map, position, unwrap_or}
+use Rattle.std.specs.Prelude.{ℕ, ◌+◌, if◌then◌else◌, List, [], ◌∷◌, ◌++◌, codes, fold, map, position, unwrap_or}
 use Rattle.std.specs.List.{flat_map, list_any}
 use Rattle.class_layout.specs.ClassList.{Class}
 use Rattle.class_layout.specs.Names.{same_name}

@@ -1,5 +1,5 @@
 -- The text of a table of addresses.
-use Rattle.std.specs.Prelude.{ℕ, zero, suc, ◌+◌, ◌/◌, ◌%◌, ◌^◌, if◌then◌else◌, List, [], ◌∷◌, ◌++◌, codes, decimal, nat_lt}
+use Rattle.std.specs.Prelude.{ℕ, zero, suc, ◌+◌, ◌/◌, ◌%◌, ◌^◌, if◌then◌else◌, List, [], ◌∷◌, codes, decimal, nat_lt}
 use Rattle.std.specs.List.{concat, flat_map}
 use Rattle.heap_graph.specs.Graph.{Graph}
 

@@ -1,4 +1,4 @@
-use Rattle.std.proofs.Common.{ℕ, List, [], sym, subst}
+use Rattle.std.proofs.Common.{ℕ, List, sym, subst}
 use Rattle.hprof_write.specs.Outcomes.{AppendedBut}
 use Rattle.hprof_write.proofs.Appends.{AppendedBut-all}
 use Rattle.hprof_write.proofs.pieces.put_piece.Goals as goal

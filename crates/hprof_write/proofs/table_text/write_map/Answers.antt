@@ -1,4 +1,4 @@
-use Rattle.std.proofs.Common.{rules, ◌≡◌, ◌∙◌, ℕ, ◌+◌, ◌≤◌, suc, List, [], ◌++◌, length, take, refl, sym, subst, ap, arith, add-one}
+use Rattle.std.proofs.Common.{◌≡◌, ◌∙◌, ℕ, ◌+◌, ◌≤◌, suc, List, [], length, take, sym, subst, ap, arith, add-one}
 use Rattle.std.specs.Option.{IsSomeAnd}
 use Rattle.std.specs.List.{slice_get}
 use Rattle.object_view.specs.declared.heap_view.Seen.{Seen}
@@ -50,11 +50,11 @@ loop-k-preserved g c =
     let graph = g.V.HeapView.graph first in
     let table = g.V.HeapView.table first in
     let step = step-seen graph (g.V.HeapView.graph view) table (g.V.HeapView.table view) c.loop-k._k (g.V.HeapView.given view)
-        (g.V.HeapView.read_count first) (g.V.HeapView.read_count view) (g.V.HeapView.read_count next) c.next_seen-seen.result
-        (g.met.V.HeapView.same_graph first view inv.same) (g.met.V.HeapView.same_table first view inv.same) inv.given
-        c.next_seen-seen.ensures.seen c.next_seen-seen.ensures.reads inv.reads in
+    (g.V.HeapView.read_count first) (g.V.HeapView.read_count view) (g.V.HeapView.read_count next) c.next_seen-seen.result
+    (g.met.V.HeapView.same_graph first view inv.same) (g.met.V.HeapView.same_table first view inv.same) inv.given
+    c.next_seen-seen.ensures.seen c.next_seen-seen.ensures.reads inv.reads in
     let waits = line-waits table graph.objects c.loop-k._k (table_line c.next_seen-seen.result.number c.next_seen-seen.result.at.0)
-        c.loop-k.waiting.items c.put_line.new.out.items start (g.F.Shelf.shelved c.loop-k.shelf) step.line c.in_ok-put_line.ensures inv.appended in
+    c.loop-k.waiting.items c.put_line.new.out.items start (g.F.Shelf.shelved c.loop-k.shelf) step.line c.in_ok-put_line.ensures inv.appended in
     let put = c.in_ok-put_piece.ensures.ok start (lines table (take (suc c.loop-k._k) graph.objects)) waits in
     let one : suc c.loop-k._k ≡ c.loop-k._k + 1 = sym (add-one c.loop-k._k) in
     record {
@@ -87,9 +87,9 @@ returns-in_err-put_line-clause-reads g c =
     let graph = g.V.HeapView.graph first in
     let table = g.V.HeapView.table first in
     let step = step-seen graph (g.V.HeapView.graph view) table (g.V.HeapView.table view) c.loop-k._k (g.V.HeapView.given view)
-        (g.V.HeapView.read_count first) (g.V.HeapView.read_count view) (g.V.HeapView.read_count next) c.next_seen-seen.result
-        (g.met.V.HeapView.same_graph first view inv.same) (g.met.V.HeapView.same_table first view inv.same) inv.given
-        c.next_seen-seen.ensures.seen c.next_seen-seen.ensures.reads inv.reads in
+    (g.V.HeapView.read_count first) (g.V.HeapView.read_count view) (g.V.HeapView.read_count next) c.next_seen-seen.result
+    (g.met.V.HeapView.same_graph first view inv.same) (g.met.V.HeapView.same_table first view inv.same) inv.given
+    c.next_seen-seen.ensures.seen c.next_seen-seen.ensures.reads inv.reads in
     IsWalked-within graph.objects (suc c.loop-k._k) (g.V.HeapView.read_count first) (g.V.HeapView.read_count next) step.walked
 
 pub returns-in_err-put_piece-clause-failed : goal.returns-in_err-put_piece-clause-failed
@@ -103,11 +103,11 @@ returns-in_err-put_piece-clause-failed g c =
     let graph = g.V.HeapView.graph first in
     let table = g.V.HeapView.table first in
     let step = step-seen graph (g.V.HeapView.graph view) table (g.V.HeapView.table view) c.loop-k._k (g.V.HeapView.given view)
-        (g.V.HeapView.read_count first) (g.V.HeapView.read_count view) (g.V.HeapView.read_count next) c.next_seen-seen.result
-        (g.met.V.HeapView.same_graph first view inv.same) (g.met.V.HeapView.same_table first view inv.same) inv.given
-        c.next_seen-seen.ensures.seen c.next_seen-seen.ensures.reads inv.reads in
+    (g.V.HeapView.read_count first) (g.V.HeapView.read_count view) (g.V.HeapView.read_count next) c.next_seen-seen.result
+    (g.met.V.HeapView.same_graph first view inv.same) (g.met.V.HeapView.same_table first view inv.same) inv.given
+    c.next_seen-seen.ensures.seen c.next_seen-seen.ensures.reads inv.reads in
     let waits = line-waits table graph.objects c.loop-k._k (table_line c.next_seen-seen.result.number c.next_seen-seen.result.at.0)
-        c.loop-k.waiting.items c.put_line.new.out.items start (g.F.Shelf.shelved c.loop-k.shelf) step.line c.in_ok-put_line.ensures inv.appended in
+    c.loop-k.waiting.items c.put_line.new.out.items start (g.F.Shelf.shelved c.loop-k.shelf) step.line c.in_ok-put_line.ensures inv.appended in
     on_err-always (AppendedPrefix start (lines table graph.objects) now) c.from_residual-in_err-put_piece.result
     (lines-prefix table graph.objects (suc c.loop-k._k) start now
     (c.in_err-put_piece.ensures.failed start (lines table (take (suc c.loop-k._k) graph.objects)) waits))
@@ -121,9 +121,9 @@ returns-in_err-put_piece-clause-reads g c =
     let graph = g.V.HeapView.graph first in
     let table = g.V.HeapView.table first in
     let step = step-seen graph (g.V.HeapView.graph view) table (g.V.HeapView.table view) c.loop-k._k (g.V.HeapView.given view)
-        (g.V.HeapView.read_count first) (g.V.HeapView.read_count view) (g.V.HeapView.read_count next) c.next_seen-seen.result
-        (g.met.V.HeapView.same_graph first view inv.same) (g.met.V.HeapView.same_table first view inv.same) inv.given
-        c.next_seen-seen.ensures.seen c.next_seen-seen.ensures.reads inv.reads in
+    (g.V.HeapView.read_count first) (g.V.HeapView.read_count view) (g.V.HeapView.read_count next) c.next_seen-seen.result
+    (g.met.V.HeapView.same_graph first view inv.same) (g.met.V.HeapView.same_table first view inv.same) inv.given
+    c.next_seen-seen.ensures.seen c.next_seen-seen.ensures.reads inv.reads in
     IsWalked-within graph.objects (suc c.loop-k._k) (g.V.HeapView.read_count first) (g.V.HeapView.read_count next) step.walked
 
 pub returns-in_err-put_rest-clause-failed : goal.returns-in_err-put_rest-clause-failed

@@ -11,5 +11,5 @@ invariant-loop-k g l = record {
   appended : AppendedBut (g.F.Shelf.shelved l.fn.shelf) (lines (g.V.HeapView.table l.fn.view) (take l._k (g.V.HeapView.graph l.fn.view).objects)) l.waiting.items (g.F.Shelf.shelved l.shelf);
   unfinished : (g.F.Shelf.shelved l.shelf).unfinished ≡ true;
   never_falls : g.F.Shelf.fault_count l.fn.shelf ≤ g.F.Shelf.fault_count l.shelf;
-  reads : IsWalked (g.V.HeapView.graph l.fn.view).objects l._k (g.V.HeapView.read_count l.fn.view) (g.V.HeapView.read_count l.view)
+  reads : IsWalked (g.V.HeapView.graph l.fn.view).objects l._k (g.V.HeapView.read_count l.fn.view) (g.V.HeapView.read_count l.view);
 }
