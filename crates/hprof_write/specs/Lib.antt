@@ -1,0 +1,9 @@
+pub mod Classes
+pub mod Examples
+pub mod Objects
+pub mod Outcomes
+pub mod Reads
+pub mod Segments
+pub mod Strings
+pub mod TableText
+pub mod Written
