@@ -1,0 +1,9 @@
+//! Reads HPROF dumps, `JAVA PROFILE 1.0.3`: the records of a dump, or the first place where a text is none.
+#![tactic(auto)]
+
+mod class_parts;
+mod fields;
+mod parts;
+mod read_error;
+
+pub use read_error::ReadError;
