@@ -1,1 +1,4 @@
 pub mod Loop
+pub mod Formats
+pub mod FieldFormats
+pub mod PartFormats
