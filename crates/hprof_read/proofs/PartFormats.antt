@@ -81,10 +81,10 @@ if_true : (a b : Bool) → cond a b false ≡ true → (a ≡ true) × (b ≡ tr
 if_true true b h = (refl, h)
 if_true false b h = absurd cc
 
-primitive_from : (code : ℕ) → is_primitive code ≡ true → IsPrimitive code
+pub primitive_from : (code : ℕ) → is_primitive code ≡ true → IsPrimitive code
 primitive_from code h = let p = if_true (nat_le 4 code) (nat_le code 11) h in (leb-true _ _ p.0, leb-true _ _ p.1)
 
-primitive_to : (code : ℕ) → IsPrimitive code → is_primitive code ≡ true
+pub primitive_to : (code : ℕ) → IsPrimitive code → is_primitive code ≡ true
 primitive_to code h = rw (le-leb _ _ h.0, le-leb _ _ h.1) refl
 
 primitive_small : (code : ℕ) → is_primitive code ≡ true → code < 256
@@ -157,34 +157,34 @@ static_format =
     made_format (both (number w32) (λ _. typed)) (both_text (number w32) word IsWord (λ _. typed) typed_text (λ _. TypedFits)) (BothFit (number w32) word IsWord (λ _. typed) typed_text (λ _. TypedFits)) triple_of static_bytes IsStatic
     (both_format (number w32) word IsWord (λ _. typed) typed_text (λ _. TypedFits) word_format (λ _ _. typed_format)) static_made
 
-abbrev pair_text : ℕ × ℕ → List ℕ
+abbrev pub pair_text : ℕ × ℕ → List ℕ
 pair_text f = word f.0 ++ field 1 f.1
 
-abbrev PairFits : ℕ × ℕ → Type 0
+abbrev pub PairFits : ℕ × ℕ → Type 0
 PairFits f = IsWord f.0 × (is_type f.1 ≡ true)
 
 pair_format : IsFormat field_name pair_text PairFits
 unfolding field_name
 pair_format = both_format (number w32) word IsWord (λ _. checked is_type) (field 1) (λ _ c. is_type c ≡ true) word_format (λ _ _. type_format)
 
-field_names_same : (fs : List (ℕ × ℕ)) → flat_map field_name_bytes fs ≡ flat_map pair_text fs
+pub field_names_same : (fs : List (ℕ × ℕ)) → flat_map field_name_bytes fs ≡ flat_map pair_text fs
 field_names_same [] = refl
 field_names_same (f ∷ fs) = ap (λ (t : List ℕ). (word f.0 ++ t) ++ flat_map field_name_bytes fs) (append-nil (field 1 f.1)) ∙ ap (λ (t : List ℕ). pair_text f ++ t) (field_names_same fs)
 
-field_names_to : (fs : List (ℕ × ℕ)) → All PairFits fs → All IsFieldName fs
+pub field_names_to : (fs : List (ℕ × ℕ)) → All PairFits fs → All IsFieldName fs
 field_names_to fs h = All-weaker PairFits IsFieldName (λ f fit. (fit.0, type_from f.1 fit.1)) fs h
 
-field_names_from : (fs : List (ℕ × ℕ)) → All IsFieldName fs → All PairFits fs
+pub field_names_from : (fs : List (ℕ × ℕ)) → All IsFieldName fs → All PairFits fs
 field_names_from fs h = All-weaker IsFieldName PairFits (λ f fit. (fit.0, type_to f.1 fit.1)) fs h
 
-constants_format : IsFormat constants (list_text constant constant_bytes IsConstant) (ListFits constant constant_bytes IsConstant)
+pub constants_format : IsFormat constants (list_text constant constant_bytes IsConstant) (ListFits constant constant_bytes IsConstant)
 unfolding constants
 constants_format = list_format constant constant_bytes IsConstant constant_format
 
-statics_format : IsFormat statics (list_text static_field static_bytes IsStatic) (ListFits static_field static_bytes IsStatic)
+pub statics_format : IsFormat statics (list_text static_field static_bytes IsStatic) (ListFits static_field static_bytes IsStatic)
 unfolding statics
 statics_format = list_format static_field static_bytes IsStatic static_format
 
-field_names_format : IsFormat field_names (list_text field_name pair_text PairFits) (ListFits field_name pair_text PairFits)
+pub field_names_format : IsFormat field_names (list_text field_name pair_text PairFits) (ListFits field_name pair_text PairFits)
 unfolding field_names
 field_names_format = list_format field_name pair_text PairFits pair_format

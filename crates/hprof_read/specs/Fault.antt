@@ -5,7 +5,7 @@ use Rattle.hprof_records.specs.declared.sub_record.SubRecord.{SubRecord}
 use Rattle.hprof_records.specs.declared.top_record.TopRecord.{TopRecord}
 use Rattle.hprof_records.specs.Fields.{field}
 use Rattle.hprof_records.specs.Parts.{word, bytes_of_part, bytes_of_parts}
-use Rattle.hprof_records.specs.Records.{tag_of, body_of, bytes_of_record, dump_bytes}
+use Rattle.hprof_records.specs.Records.{tag_of, body_of, bytes_of_record, bytes_of_records, header_bytes}
 use Rattle.hprof_records.specs.Formed.{IsByte, IsWord, IsPart, is_one_of}
 use Rattle.hprof_records.specs.Dump.{segment_tags, HasFields, IsRecord, AreRecords}
 use Rattle.hprof_read.specs.declared.read_error.ReadError.{ReadError}
@@ -45,17 +45,6 @@ BeginsPart front = (p : SubRecord) × (next : ℕ) × (more : List ℕ) × (IsPa
 abbrev pub BeginsNoPart : List ℕ → Type 0
 BeginsNoPart front = (p : SubRecord) (more : List ℕ) → IsPart p → bytes_of_part p ≡ front ++ more → ⊥
 
--- the tags of the records whose fields may pass their body: strings, loaded classes, stack traces
-abbrev pub field_tags : List ℕ
-field_tags = 0x01 ∷ 0x02 ∷ 0x05 ∷ []
-
--- a whole record of such a tag stands at the front, and no fields give its body
-abbrev pub LacksFields : List ℕ → Type 0
-LacksFields rest =
-    (tag : ℕ) × (time : ℕ) × (body : List ℕ) × (after : List ℕ)
-    × (IsTrue (is_one_of field_tags tag) × IsFramed tag time body × (rest ≡ framed tag time body ++ after)
-    × ((r : TopRecord) → HasFields r → tag_of r ≡ tag → body_of r ≡ body → ⊥))
-
 -- What is wrong with a segment's body from the place q on. Up to its first byte that can't stand there, each text of a
 -- part's is allowed: only tags and types can be wrong, and a tag stands first.
 abbrev pub PartFault : ReadError → List ℕ → ℕ → Type 0
@@ -71,19 +60,41 @@ PartFault (IdSize offset) rest q = ⊥
 PartFault (CutShort offset) rest q = ⊥
 PartFault OutOfMemory rest q = ⊥
 
--- a whole segment stands at the front, at the place o; behind its well-formed parts no part stands, and this is wrong
-abbrev pub SegmentFault : ReadError → List ℕ → ℕ → Type 0
-SegmentFault e rest o =
-    (tag : ℕ) × (time : ℕ) × (parts : List SubRecord) × (more : List ℕ) × (after : List ℕ)
-    × (IsTrue (is_one_of segment_tags tag) × IsFramed tag time (bytes_of_parts parts ++ more)
-    × (rest ≡ framed tag time (bytes_of_parts parts ++ more) ++ after)
-    × All IsPart parts × (more ≢ []) × NoPart more
-    × PartFault e more (o + 9 + length (bytes_of_parts parts)))
+-- what is wrong with a segment's body, which stands at a place: well-formed parts, and then this
+abbrev pub BodyFault : ReadError → List ℕ → ℕ → Type 0
+BodyFault e body at =
+    (parts : List SubRecord) × (rest : List ℕ)
+    × (All IsPart parts × (body ≡ bytes_of_parts parts ++ rest) × (rest ≢ []) × NoPart rest
+    × PartFault e rest (at + length (bytes_of_parts parts)))
 
--- what is wrong with the record at the place o
+-- the tags of the records whose fields may pass their body: strings, loaded classes, stack traces
+abbrev pub field_tags : List ℕ
+field_tags = 0x01 ∷ 0x02 ∷ 0x05 ∷ []
+
+-- no fields of a record with this tag give this body
+abbrev pub LacksFields : ℕ → List ℕ → Type 0
+LacksFields tag body = (r : TopRecord) → HasFields r → tag_of r ≡ tag → body_of r ≡ body → ⊥
+
+-- what is wrong with the body of a record at the place o, which stands behind its 9 bytes
+abbrev pub ContentFault : ReadError → ℕ → List ℕ → ℕ → Type 0
+ContentFault e tag body o =
+    ((e ≡ PastEnd o) × (IsTrue (is_one_of field_tags tag) × LacksFields tag body))
+    ⊎ (IsTrue (is_one_of segment_tags tag) × BodyFault e body (o + 9))
+
+-- what is wrong with the record at the place o: it isn't whole, or it is whole and this is wrong with its body
 abbrev pub RecordFault : ReadError → List ℕ → ℕ → Type 0
 RecordFault e rest o =
-    ((e ≡ CutShort o) × IsCut rest) ⊎ ((e ≡ PastEnd o) × LacksFields rest) ⊎ SegmentFault e rest o
+    ((e ≡ CutShort o) × IsCut rest)
+    ⊎ ((tag : ℕ) × (time : ℕ) × (body : List ℕ) × (after : List ℕ)
+    × (IsFramed tag time body × (rest ≡ framed tag time body ++ after) × ContentFault e tag body o))
+
+-- what is wrong with the records, which stand at a place: well-formed records, behind which something but no well-formed
+-- record follows, and this is wrong with it
+abbrev pub RecordsFault : ReadError → List ℕ → ℕ → Type 0
+RecordsFault e text at =
+    (records : List TopRecord) × (rest : List ℕ)
+    × (AreRecords records × (text ≡ bytes_of_records records ++ rest) × (rest ≢ []) × NoRecord rest
+    × RecordFault e rest (at + length (bytes_of_records records)))
 
 -- what is wrong with the header
 abbrev pub HeaderFault : ReadError → List ℕ → Type 0
@@ -98,13 +109,8 @@ HeaderFault (PastEnd offset) text = ⊥
 HeaderFault (BadType offset) text = ⊥
 HeaderFault OutOfMemory text = ⊥
 
--- behind a dump, the longest that the text begins with, something follows, and this is wrong with it
-abbrev pub BehindDump : ReadError → List ℕ → Type 0
-BehindDump e text =
-    (time : ℕ) × (records : List TopRecord) × (rest : List ℕ)
-    × ((time < 2 ^ 64) × AreRecords records × (text ≡ dump_bytes time records ++ rest)
-    × (rest ≢ []) × NoRecord rest × RecordFault e rest (length (dump_bytes time records)))
-
--- the first fault of a text
+-- the first fault of a text: of its header, or of the records that stand behind its header's 31 bytes
 abbrev pub IsFirstFault : ReadError → List ℕ → Type 0
-IsFirstFault e text = HeaderFault e text ⊎ BehindDump e text
+IsFirstFault e text =
+    HeaderFault e text
+    ⊎ ((time : ℕ) × (body : List ℕ) × ((time < 2 ^ 64) × (text ≡ header_bytes time ++ body) × RecordsFault e body 31))

@@ -1,14 +1,18 @@
 -- Reading fields from left to right: a value and the bytes after it, or what stops the reading.
-use Rattle.std.specs.Prelude.{◌≡◌, ℕ, zero, suc, ◌*◌, Bool, true, false, nat_eq, nat_le, nat_lt, List, [], ◌∷◌, length, take, drop, Option, Some, None, is_some, Result, Ok, Err, if◌then◌else◌}
+use Rattle.std.specs.Prelude.{◌≡◌, ℕ, zero, suc, ◌*◌, ◌-◌, ◌≤◌, Bool, true, false, nat_eq, nat_le, nat_lt, List, [], ◌∷◌, length, take, drop, Option, Some, None, is_some, Result, Ok, Err, if◌then◌else◌}
 use Rattle.std.specs.Int.{Width, w8, w16, w32, byte_len, from_be_bytes}
 use Rattle.hprof_records.specs.declared.sub_record.SubRecord.{SubRecord}
 use Rattle.hprof_records.specs.declared.sub_record.SubRecord.TheVariants as part
+use Rattle.hprof_records.specs.declared.top_record.TopRecord.{TopRecord}
+use Rattle.hprof_records.specs.declared.top_record.TopRecord.TheVariants as top
 use Rattle.hprof_records.specs.Types.{value_bytes}
 use Rattle.hprof_records.specs.Formed.{is_one_of, bare_tags, tags_with_one, tags_with_two}
 use Rattle.hprof_read.specs.declared.fields.Stop.{Stop}
 use Rattle.hprof_read.specs.declared.fields.Stop.TheVariants.{Short, Refused}
 use Rattle.hprof_read.specs.declared.fields.Halt.{Halt}
 use Rattle.hprof_read.specs.declared.fields.Halt.TheVariants as halts
+use Rattle.hprof_read.specs.declared.read_error.ReadError.{ReadError}
+use Rattle.hprof_read.specs.declared.read_error.ReadError.TheVariants as errors
 use Rattle.hprof_read.specs.declared.parts.Kind.{Kind}
 use Rattle.hprof_read.specs.declared.parts.Kind.TheVariants as kinds
 
@@ -185,3 +189,42 @@ trace_head bytes = both (both (number w32) (λ _. number w32)) (λ _. counted w3
 -- a record's tag, its time and its body, whatever that means
 unfoldable pub frame : Reader (ℕ × (ℕ × List ℕ))
 frame bytes = both (number w8) (λ _. both (number w32) (λ _. counted_bytes)) bytes
+
+-- the records that have fields before bytes that go to the end of the body
+unfoldable pub text_of : ℕ → List ℕ → Result TopRecord Stop
+text_of time body = do
+  x ← text_head body
+  Ok (top.Text time x.0 x.1)
+
+unfoldable pub load_of : ℕ → List ℕ → Result TopRecord Stop
+load_of time body = do
+  x ← load_head body
+  Ok (top.LoadClass time x.0.0.0 x.0.0.1.0 x.0.0.1.1 x.0.1 x.1)
+
+unfoldable pub trace_of : ℕ → List ℕ → Result TopRecord Stop
+trace_of time body = do
+  x ← trace_head body
+  Ok (top.Trace time x.0.0.0 x.0.0.1 x.0.1 x.1)
+
+-- the fault, where a record's fields pass its body
+abbrev pub past_of : Halt → ℕ → ReadError
+past_of halts.OutOfMemory at = errors.OutOfMemory
+past_of (halts.Stopped s) at = errors.PastEnd at
+
+-- the fault, where so many bytes are left at a part and the body has this end
+abbrev pub part_fault : Halt → ℕ → ℕ → ReadError
+part_fault halts.OutOfMemory left end = errors.OutOfMemory
+part_fault (halts.Stopped Short) left end = errors.PastEnd (end - left)
+part_fault (halts.Stopped (Refused n)) left end =
+    if nat_eq n left then errors.UnknownTag (end - left) else errors.BadType (end - n)
+
+-- a refused byte is among these
+abbrev pub IsWithin : Halt → ℕ → Type 0
+IsWithin halts.OutOfMemory left = Unit {0}
+IsWithin (halts.Stopped Short) left = Unit {0}
+IsWithin (halts.Stopped (Refused n)) left = n ≤ left
+
+-- a record's fields, or the fault at the record's place
+abbrev pub with_place : Result TopRecord Halt → ℕ → Result TopRecord ReadError
+with_place (Ok r) at = Ok r
+with_place (Err h) at = Err (past_of h at)

@@ -2,8 +2,11 @@
 #![tactic(auto)]
 
 mod class_parts;
+mod dump;
 mod fields;
 mod parts;
 mod read_error;
+mod records;
 
+pub use dump::{Dump, TopList, read_dump};
 pub use read_error::ReadError;
