@@ -1,10 +1,10 @@
 -- The formats of single fields: numbers, bytes as they stand, bytes that pass a test, and counts before values.
 use Rattle.std.proofs.Common.{◌≡◌, ℕ, zero, suc, ◌+◌, ◌-◌, ◌^◌, ◌≤◌, ◌<◌, Bool, true, false, cond, ltb, List, [], ◌∷◌, ◌++◌, length, get_or, take, drop, replicate, Result, Ok, Err, refl, sym, ap, subst, ◌∙◌, append_assoc, arith, All, inl, inr}
-use Rattle.std.specs.Int.{Width, w8, w16, w32, w64, byte_len, from_be_bytes, to_be_bytes}
+use Rattle.std.specs.Int.{Width, byte_at, w8, w16, w32, w64, byte_len, from_be_bytes, to_be_bytes}
 use Rattle.std.specs.List.{flat_map}
 use Rattle.std.proofs.lemmas.Bool.{cases_lt, ltb-false, ltb-true, le-ltb}
 use Rattle.std.proofs.lemmas.List.{length-replicate, take_at, drop_at, take-append-drop, length-append, length-take, length-drop, get_or_past}
-use Rattle.std.proofs.lemmas.List.Elements.{All-append, All-replicate, All-take, All-get_or, All-head}
+use Rattle.std.proofs.lemmas.List.Elements.{All-nil, All-cons, All-append, All-replicate, All-take, All-get_or, All-head}
 use Rattle.std.proofs.lemmas.Nat.{be_bytes_2, be_bytes_4, be_bytes_8, from_be_bytes-to_be_bytes_2, from_be_bytes-to_be_bytes_4, from_be_bytes-to_be_bytes_8}
 use Rattle.hprof_records.specs.Fields.{field}
 use Rattle.hprof_records.specs.Formed.{IsByte}
@@ -83,6 +83,14 @@ wide32 = record {
   some = omega arith;
 }
 
+byte_small : (k n : ℕ) → byte_at k n < 256
+byte_small zero n = omega arith
+byte_small (suc k) n = omega arith
+
+pub field_octets : (k n : ℕ) → AreBytes (field k n)
+field_octets zero n = All-nil IsByte
+field_octets (suc k) n = All-cons IsByte (byte_at k n) (field k n) (byte_small k n) (field_octets k n)
+
 module _ (w : Width) (limit : ℕ) (wide : IsWide w limit) where
   abbrev pub number_text : ℕ → List ℕ
   number_text n = to_be_bytes w n
@@ -122,6 +130,7 @@ module _ (w : Width) (limit : ℕ) (wide : IsWide w limit) where
     again = number_again;
     takes = number_takes;
     some = (0, wide.some);
+    octets = λ n lt. field_octets (byte_len w) n;
     short = number_short;
     bad = λ bytes left fits e.
       let got : ℕ × List ℕ = (from_be_bytes w (take (byte_len w) bytes), drop (byte_len w) bytes) in
@@ -169,6 +178,7 @@ raw_format n = record {
   again = raw_again n;
   takes = raw_takes n;
   some = let zero_fits : IsByte 0 = omega arith in (replicate n 0, (length-replicate n 0, All-replicate IsByte n 0 zero_fits));
+  octets = λ xs fit. fit.1;
   short = raw_short n;
   bad = λ bytes left fits e.
     let got : List ℕ × List ℕ = (take n bytes, drop n bytes) in
@@ -226,5 +236,5 @@ module _ (test : ℕ → Bool) (good : ℕ) (passes : test good ≡ true) (small
 
   pub checked_format : IsFormat (checked test) (field 1) Passes
   checked_format = record {
-    again = checked_again; takes = checked_takes; some = (good, passes); short = checked_short; bad = checked_bad;
+    again = checked_again; takes = checked_takes; some = (good, passes); octets = λ c h. field_octets 1 c; short = checked_short; bad = checked_bad;
   }

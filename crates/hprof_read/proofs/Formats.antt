@@ -3,7 +3,7 @@
 use Rattle.std.proofs.Common.{◌≡◌, ℕ, zero, suc, ◌+◌, ◌≤◌, ◌<◌, ◌⊎◌, inl, inr, Bool, true, false, cond, List, [], ◌∷◌, ◌++◌, length, Result, Ok, Err, refl, sym, ap, subst, ◌∙◌, append_assoc, arith, All}
 use Rattle.std.specs.List.{flat_map}
 use Rattle.std.proofs.lemmas.List.{append-nil}
-use Rattle.std.proofs.lemmas.List.Elements.{All-cons, All-nil, All-head, All-tail, All-drop}
+use Rattle.std.proofs.lemmas.List.Elements.{All-cons, All-nil, All-head, All-tail, All-drop, All-append}
 use Rattle.std.proofs.Math.Seq.{drop-append_seam}
 use Rattle.hprof_records.specs.Formed.{IsByte}
 use Rattle.hprof_read.specs.declared.fields.Stop.{Stop}
@@ -37,6 +37,7 @@ pub record IsFormat {A : Type 0} (read : Reader A) (text : A → List ℕ) (Fits
   -- what is read stands there
   pub takes : (bytes : List ℕ) (v : A) (rest : List ℕ) → AreBytes bytes → read bytes ≡ Ok (v, rest) → (bytes ≡ text v ++ rest) × Fits v
   pub some : (v : A) × Fits v
+  pub octets : (v : A) → Fits v → AreBytes (text v)
   pub short : (bytes : List ℕ) → AreBytes bytes → read bytes ≡ Err Short → GoesOn text Fits bytes
   pub bad : (bytes : List ℕ) (left : ℕ) → AreBytes bytes → read bytes ≡ Err (Refused left) → StopsAt read text Fits bytes left
 
@@ -158,6 +159,7 @@ module _ {A B : Type 0} (first : Reader A) (text : A → List ℕ) (Fits : A →
     again = both_again f g;
     takes = both_takes f g;
     some = let a = f.some in let b = (g a.0 a.1).some in ((a.0, b.0), (a.1, b.1));
+    octets = λ p fit. All-append IsByte (text p.0) (text' p.1) (f.octets p.0 fit.0) ((g p.0 fit.0).octets p.1 fit.1);
     short = both_short f g;
     bad = both_bad f g;
   }
@@ -219,6 +221,7 @@ module _ {A B : Type 0} (read : Reader A) (text : A → List ℕ) (Fits : A → 
     again = made_again f m;
     takes = made_takes f m;
     some = let a = f.some in (make a.0, m.to a.0 a.1);
+    octets = λ b fit. let a = m.from b fit in subst (λ (c : B). AreBytes (text' c)) a.1.1 (subst AreBytes (sym (m.same a.0 a.1.0)) (f.octets a.0 a.1.0));
     short = made_short f m;
     bad = made_bad f m;
   }
@@ -238,11 +241,16 @@ module _ {A : Type 0} (read : Reader A) (text : A → List ℕ) (Fits : A → Ty
       let got : List A × List ℕ = ([], bytes) in
       subst (λ (q : List A × List ℕ). (bytes ≡ flat_map text q.0 ++ q.1) × SoMany Fits 0 q.0) (ok_is got (xs, rest) e) (refl, (refl, All-nil Fits))
 
+  nothing_octets : (xs : List A) → SoMany Fits 0 xs → AreBytes (flat_map text xs)
+  nothing_octets [] fit = All-nil IsByte
+  nothing_octets (x ∷ xs) fit = let e : suc (length xs) ≡ 0 = fit.0 in absurd (omega arith)
+
   nothing_format : IsFormat (times 0 read) (flat_map text) (SoMany Fits 0)
   nothing_format = record {
     again = nothing_again;
     takes = nothing_takes;
     some = ([], (refl, All-nil Fits));
+    octets = nothing_octets;
     short = λ bytes fits e. absurd cc;
     bad = λ bytes left fits e. absurd cc;
   }

@@ -3,3 +3,7 @@ pub mod Formats
 pub mod FieldFormats
 pub mod PartFormats
 pub mod PartsByTag
+pub mod Segments
+pub mod Header
+pub mod Unique
+pub mod Bodies

@@ -75,6 +75,26 @@ counted_format =
     made_format (both (number w32) raw) (both_text (number w32) word IsWord raw same_bytes (λ n. SoMany IsByte n)) (BothFit (number w32) word IsWord raw same_bytes (λ n. SoMany IsByte n)) (λ x. x.1) counted_text CountedFits
     (both_format (number w32) word IsWord raw same_bytes (λ n. SoMany IsByte n) word_format (λ n _. raw_format n)) counted_made
 
+module _ {A : Type 0} (read : Reader A) (text : A → List ℕ) (Fits : A → Type 0) where
+  -- a count of 4 bytes, and so many values
+  abbrev pub long_text : List A → List ℕ
+  long_text xs = word (length xs) ++ flat_map text xs
+
+  abbrev pub LongFits : List A → Type 0
+  LongFits xs = IsWord (length xs) × All Fits xs
+
+  long_made : IsMade (both_text (number w32) word IsWord (λ n. times n read) (flat_map text) (λ n. SoMany Fits n)) (BothFit (number w32) word IsWord (λ n. times n read) (flat_map text) (λ n. SoMany Fits n)) (λ x. x.1) long_text LongFits
+  long_made = record {
+    to = λ a fit. (subst IsWord (sym fit.1.0) fit.0, fit.1.1);
+    same = λ a fit. ap (λ (n : ℕ). word n ++ flat_map text a.1) fit.1.0;
+    from = λ xs fit. ((length xs, xs), ((fit.0, (refl, fit.1)), refl));
+  }
+
+  pub long_format : IsFormat read text Fits → IsFormat (counted w32 read) long_text LongFits
+  long_format f =
+      made_format (both (number w32) (λ n. times n read)) (both_text (number w32) word IsWord (λ n. times n read) (flat_map text) (λ n. SoMany Fits n)) (BothFit (number w32) word IsWord (λ n. times n read) (flat_map text) (λ n. SoMany Fits n)) (λ x. x.1) long_text LongFits
+      (both_format (number w32) word IsWord (λ n. times n read) (flat_map text) (λ n. SoMany Fits n) word_format (λ n _. times_format read text Fits f n)) long_made
+
 -- ---- types
 
 if_true : (a b : Bool) → cond a b false ≡ true → (a ≡ true) × (b ≡ true)

@@ -4,7 +4,7 @@ use Rattle.std.specs.Prelude.{nat_eq, ◌||◌}
 use Rattle.std.specs.Int.{w8, w16, w32, w64}
 use Rattle.std.specs.List.{flat_map, concat, AllByRecursion}
 use Rattle.std.proofs.lemmas.List.{append-nil}
-use Rattle.std.proofs.lemmas.List.Elements.{All-head}
+use Rattle.std.proofs.lemmas.List.Elements.{All-head, All-append}
 use Rattle.std.proofs.lemmas.Bool.{eqb-true}
 use Rattle.hprof_records.specs.declared.sub_record.SubRecord.{SubRecord}
 use Rattle.hprof_records.specs.declared.sub_record.SubRecord.TheVariants.{Root, HeapInfo, ClassDump, Instance, ObjectArray, PrimitiveArray, NoData}
@@ -18,7 +18,7 @@ use Rattle.hprof_read.specs.declared.parts.Kind.{Kind}
 use Rattle.hprof_read.specs.declared.parts.Kind.TheVariants as kinds
 use Rattle.hprof_read.specs.Reading.{Reader, number, raw, checked, both, made, times, counted_bytes, triple, is_primitive, constant, static_field, field_name, constants, statics, field_names, kind_of, part_of_kind, part_behind, part_at, bare_root, root_with_one, root_with_two, heap_info, class_dump, instance, object_array, primitive_array, no_data}
 use Rattle.hprof_read.proofs.Formats.{AreBytes, AreBytes-right, GoesOn, StopsAt, IsFormat, IsMade, SoMany, both_format, both_text, BothFit, made_format, times_format}
-use Rattle.hprof_read.proofs.FieldFormats.{word_format, raw_format, same_bytes, cell}
+use Rattle.hprof_read.proofs.FieldFormats.{word_format, raw_format, same_bytes, cell, field_octets}
 use Rattle.hprof_read.proofs.PartFormats.{Triple, triple_text, TripleFits, triple_format, list_text, ListFits, counted_text, CountedFits, counted_format, primitive_format, primitive_from, primitive_to, pair_text, PairFits, field_names_same, field_names_to, field_names_from, constants_format, statics_format, field_names_format}
 
 either_is : (a b : Bool) → (a || b) ≡ true → (a ≡ true) ⊎ (b ≡ true)
@@ -595,7 +595,12 @@ unfolding part_at
 part_bad [] left fits e = absurd cc
 part_bad (tag ∷ bytes) left fits e = tagged_bad tag bytes (kind_of tag) refl left (AreBytes-right (tag ∷ []) bytes fits) e
 
+part_octets : (p : SubRecord) → IsPart p → AreBytes (bytes_of_part p)
+part_octets p fit =
+    let body = (kind_format (part_kind p) (part_tag p) (kind_is p fit)).octets p (fit, refl) in
+    subst AreBytes (sym (part_text p)) (All-append IsByte (field 1 (part_tag p)) (part_body p) (field_octets 1 (part_tag p)) body)
+
 pub part_format : IsFormat part_at bytes_of_part IsPart
 part_format = record {
-  again = part_again; takes = part_takes; some = (HeapInfo 0 0, some_part); short = part_short; bad = part_bad;
+  again = part_again; takes = part_takes; some = (HeapInfo 0 0, some_part); octets = part_octets; short = part_short; bad = part_bad;
 }

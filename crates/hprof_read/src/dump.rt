@@ -37,11 +37,11 @@ impl TopList {
     }
 
     /// Puts a record behind the others. After an error the list is as before.
-    pub fn push(&mut self, record: TopRecord) -> Result<(), AllocError>
-        ensures pushed { OnOk result (self.new ≡ self.old ++ record ∷ []) }
+    pub fn push(&mut self, one: TopRecord) -> Result<(), AllocError>
+        ensures pushed { OnOk result (self.new ≡ self.old ++ one ∷ []) }
         ensures unchanged { OnErr result (self.new ≡ self.old) }
     {
-        self.records.push(record)?;
+        self.records.push(one)?;
         Ok(())
     }
 
@@ -67,18 +67,20 @@ fn read_header(bytes: &[u8]) -> Result<(u64, &[u8]), ReadError>
     ensures found { IfOk result (λ x. (x.0 < 2 ^ 64) × (bytes.now ≡ header_bytes x.0 ++ x.1.now)) }
     ensures fault { IfErr result (λ e. HeaderFault e bytes.now) }
 {
-    if !bytes.starts_with(&MAGIC) {
+    let Some(rest) = bytes.strip_prefix(&MAGIC) else {
         return Err(ReadError::Magic { offset: 0 });
+    };
+    let Some(size) = u32_at(rest, 0) else {
+        return Err(ReadError::CutShort { offset: 19 });
+    };
+    if size != 4 {
+        return Err(ReadError::IdSize { offset: 19 });
     }
-    match u32_at(bytes, 19) {
-        None => return Err(ReadError::CutShort { offset: 19 }),
-        Some(4) => {}
-        Some(_) => return Err(ReadError::IdSize { offset: 19 }),
-    }
-    match u64_at(bytes, 23) {
-        None => Err(ReadError::CutShort { offset: 23 }),
-        Some(time) => Ok((time, &bytes[31..])),
-    }
+    let rest = &rest[4..];
+    let Some(time) = u64_at(rest, 0) else {
+        return Err(ReadError::CutShort { offset: 23 });
+    };
+    Ok((time, &rest[8..]))
 }
 
 /// The records up to the end. The first stands at a place.

@@ -175,6 +175,7 @@ pub fn read_record(
             let record = read_body(alloc, tag, time, body, at)?;
             Ok((record, rest))
         }
-        Err(_) => Err(ReadError::CutShort { offset: at }),
+        Err(Halt::OutOfMemory) => Err(ReadError::OutOfMemory),
+        Err(Halt::Stopped(_)) => Err(ReadError::CutShort { offset: at }),
     }
 }
