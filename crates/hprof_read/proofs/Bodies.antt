@@ -4,22 +4,24 @@ use Rattle.std.specs.Prelude.{nat_eq, IfOk, IfErr, IsTrue}
 use Rattle.std.specs.Int.{Width, w8, w32, byte_len, from_be_bytes}
 use Rattle.std.specs.List.{flat_map, concat}
 use Rattle.std.proofs.lemmas.List.{append-nil, length-append, append_cancel_left}
-use Rattle.std.proofs.lemmas.List.Elements.{All-nil, All-append}
+use Rattle.std.proofs.lemmas.List.Elements.{All-nil, All-append, All-push}
+use Rattle.std.proofs.lemmas.List.Concat.{flat_map-append}
+use Rattle.std.proofs.lemmas.Bool.{ne_eqb}
 use Rattle.hprof_records.specs.declared.sub_record.SubRecord.{SubRecord}
 use Rattle.hprof_records.specs.declared.top_record.TopRecord.{TopRecord}
 use Rattle.hprof_records.specs.declared.top_record.TopRecord.TheVariants.{Text, LoadClass, Trace, Segment, Other}
 use Rattle.hprof_records.specs.Fields.{field}
 use Rattle.hprof_records.specs.Parts.{word, bytes_of_part, bytes_of_parts}
-use Rattle.hprof_records.specs.Records.{tag_of, time_of, body_of, bytes_of_record}
+use Rattle.hprof_records.specs.Records.{tag_of, time_of, body_of, bytes_of_record, bytes_of_records}
 use Rattle.hprof_records.specs.Formed.{IsByte, IsWord, IsPart, is_one_of}
-use Rattle.hprof_records.specs.Dump.{segment_tags, read_tags, HasFields, IsRecord}
+use Rattle.hprof_records.specs.Dump.{segment_tags, read_tags, HasFields, IsRecord, AreRecords}
 use Rattle.hprof_read.specs.declared.fields.Stop.{Stop}
 use Rattle.hprof_read.specs.declared.fields.Stop.TheVariants.{Short, Refused}
 use Rattle.hprof_read.specs.declared.fields.Halt.{Halt}
 use Rattle.hprof_read.specs.declared.fields.Halt.TheVariants as halts
 use Rattle.hprof_read.specs.declared.read_error.ReadError.{ReadError}
 use Rattle.hprof_read.specs.declared.read_error.ReadError.TheVariants as errors
-use Rattle.hprof_read.specs.Reading.{Reader, ◌>>=◌, Gives, number, raw, made, both, counted, counted_bytes, triple, frame, text_head, load_head, trace_head, text_of, load_of, trace_of, with_place, part_at}
+use Rattle.hprof_read.specs.Reading.{Reader, ◌>>=◌, Gives, Fails, number, raw, made, both, counted, counted_bytes, triple, frame, text_head, load_head, trace_head, text_of, load_of, trace_of, with_place, part_at}
 use Rattle.hprof_read.specs.Fault.{framed, IsFramed, IsCut, NoRecord, NoPart, BodyFault, field_tags, LacksFields, ContentFault, RecordFault}
 use Rattle.hprof_read.proofs.Formats.{AreBytes, AreBytes-right, GoesOn, IsFormat, bind_ok, bind_err, ok_is, both_format, times_format}
 use Rattle.hprof_read.proofs.FieldFormats.{byte_format, word_format}
@@ -152,10 +154,23 @@ pub placed_found : (read : Result TopRecord Halt) (list : Result TopRecord Stop)
 placed_found (Ok r) list at P given f = f r given
 placed_found (Err h) list at P given f = tt
 
-pub placed_fault : (read : Result TopRecord Halt) (list : Result TopRecord Stop) (at : ℕ) (Q R : Type 0) → Gives (λ r. r) read list → ((s : Stop) → list ≡ Err s → Q) → IfErr (with_place read at) (λ e. e ≢ errors.OutOfMemory → ((e ≡ errors.PastEnd at) × Q) ⊎ R)
+pub placed_fault : (read : Result TopRecord Halt) (list : Result TopRecord Stop) (at : ℕ) (Q : Type 0) (R : ReadError → Type 0) → Gives (λ r. r) read list → ((s : Stop) → list ≡ Err s → Q) → IfErr (with_place read at) (λ e. e ≢ errors.OutOfMemory → ((e ≡ errors.PastEnd at) × Q) ⊎ R e)
 placed_fault (Ok r) list at Q R given f = tt
 placed_fault (Err halts.OutOfMemory) list at Q R given f = λ other. absurd (other refl)
 placed_fault (Err (halts.Stopped s)) list at Q R given f = λ other. inl (refl, f s given)
+
+pub kind_found : (n tag time at : ℕ) (body : List ℕ) (list : Result TopRecord Stop) (read : Result TopRecord Halt) (result : Result TopRecord ReadError) → tag ≡ n → ((r : TopRecord) → list ≡ Ok r → IsRead n time body r) → Gives (λ r. r) read list → result ≡ with_place read at
+    → IfOk result (IsRead tag time body)
+kind_found n tag time at body list read result is f given placed =
+    let told : IfOk (with_place read at) (IsRead n time body) = placed_found read list at (IsRead n time body) given f in
+    subst (λ (g : ℕ). IfOk result (IsRead g time body)) (sym is) (subst (λ (q : Result TopRecord ReadError). IfOk q (IsRead n time body)) (sym placed) told)
+
+pub kind_fault : (n tag at : ℕ) (body : List ℕ) (list : Result TopRecord Stop) (read : Result TopRecord Halt) (result : Result TopRecord ReadError) → tag ≡ n → is_one_of field_tags n ≡ true → ((s : Stop) → list ≡ Err s → LacksFields n body) → Gives (λ r. r) read list → result ≡ with_place read at
+    → IfErr result (λ e. e ≢ errors.OutOfMemory → ContentFault e tag body at)
+kind_fault n tag at body list read result is fields f given placed =
+    let told : IfErr (with_place read at) (λ e. e ≢ errors.OutOfMemory → ContentFault e n body at) =
+        placed_fault read list at (IsTrue (is_one_of field_tags n) × LacksFields n body) (λ e. IsTrue (is_one_of segment_tags n) × BodyFault e body (at + 9)) given (λ s e. (fields, f s e)) in
+    subst (λ (g : ℕ). IfErr result (λ e. e ≢ errors.OutOfMemory → ContentFault e g body at)) (sym is) (subst (λ (q : Result TopRecord ReadError). IfErr q (λ e. e ≢ errors.OutOfMemory → ContentFault e n body at)) (sym placed) told)
 
 -- ---- frames
 
@@ -289,7 +304,7 @@ cut_record bytes (Refused left) fits e = absurd (frame_calm bytes left e)
 -- ---- a body's fault leaves no fields
 
 field_not : (tag n : ℕ) → is_one_of segment_tags tag ≡ true → n ≡ tag → is_one_of segment_tags n ≡ false → ⊥
-field_not tag n s same no = let both = sym (ap (is_one_of segment_tags) same ∙ s) ∙ no in absurd cc
+field_not tag n s same none = let both = sym (ap (is_one_of segment_tags) same ∙ s) ∙ none in absurd cc
 
 segment_lacks : (e : ReadError) (tag : ℕ) (body : List ℕ) (at : ℕ) → is_one_of segment_tags tag ≡ true → BodyFault e body at → LacksFields tag body
 segment_lacks e tag body at s f (Text t id bytes) fit same whole = field_not tag 1 s same refl
@@ -311,3 +326,37 @@ pub record_fault : (e : ReadError) (bytes : List ℕ) (tag time : ℕ) (body res
 record_fault e bytes tag time body rest o fits read f =
     let one = framed_stands bytes tag time body rest fits read in
     (no_record bytes tag time body rest read (content_lacks e tag body o f), inr (tag, time, body, rest, (one.1, one.0, f)))
+
+pub frame_lengths : (bytes : List ℕ) (tag time : ℕ) (body rest : List ℕ) → AreBytes bytes → frame bytes ≡ Ok ((tag, (time, body)), rest) → (9 + length body ≤ length bytes) × IsWord (length body)
+frame_lengths bytes tag time body rest fits e =
+    let one = frame_format.takes bytes (tag, (time, body)) rest fits e in
+    let long : length bytes ≡ suc (suc (suc (suc (suc (suc (suc (suc (suc (length (body ++ rest)))))))))) = ap length one.0 in
+    (omega (arith, length-append body rest), one.1.1.1.0)
+
+-- a tag that is none of those whose bodies are read
+pub none_of : (tag : ℕ) → tag ≢ 1 → tag ≢ 2 → tag ≢ 5 → tag ≢ 0x0c → tag ≢ 0x1c → is_one_of read_tags tag ≡ false
+none_of tag a b c d e = rw (ne_eqb tag 1 a, ne_eqb tag 2 b, ne_eqb tag 5 c, ne_eqb tag 0x0c d, ne_eqb tag 0x1c e) refl
+
+-- one more record was read
+pub record OneMoreRecord (text : List ℕ) (records : List TopRecord) (rest after : List ℕ) : Type 0 where
+  pub whole : text ≡ bytes_of_records records ++ after
+  pub formed : AreRecords records
+  pub shorter : length after < length rest
+
+pub record_read : (text : List ℕ) (records : List TopRecord) (rest : List ℕ) (r : TopRecord) (after : List ℕ) → text ≡ bytes_of_records records ++ rest → AreRecords records → IsRecord r → rest ≡ bytes_of_record r ++ after
+    → OneMoreRecord text (records ++ r ∷ []) rest after
+record_read text records rest r after whole formed fit here =
+    let joined : bytes_of_records (records ++ r ∷ []) ≡ bytes_of_records records ++ bytes_of_record r =
+        flat_map-append bytes_of_record records (r ∷ []) ∙ ap (λ (t : List ℕ). bytes_of_records records ++ t) (append-nil (bytes_of_record r)) in
+    let long : length rest ≡ suc (suc (suc (suc (suc (suc (suc (suc (suc (length ((body_of r ++ []) ++ after)))))))))) = ap length here in
+    record {
+      whole = whole ∙ ap (λ (t : List ℕ). bytes_of_records records ++ t) here ∙ sym (append_assoc (bytes_of_records records) (bytes_of_record r) after) ∙ ap (λ (t : List ℕ). t ++ after) (sym joined);
+      formed = All-push IsRecord records r formed fit;
+      shorter = omega (arith, length-append (body_of r ++ []) after);
+    }
+
+pub cut_fault : (bytes : List ℕ) (h : Halt) (s : Stop) (o : ℕ) → AreBytes bytes → h ≡ halts.Stopped s → Fails h (frame bytes) → NoRecord bytes × RecordFault (errors.CutShort o) bytes o
+cut_fault bytes h s o fits is failed =
+    let e : frame bytes ≡ Err s = subst (λ (k : Halt). Fails k (frame bytes)) is failed in
+    let cut = cut_record bytes s fits e in
+    (cut.0, inl (refl, cut.1))

@@ -95,4 +95,4 @@ fault_of_part (halts.Stopped (Refused left)) rest q end fits e sums other =
     (no_part rest (Refused left) e, front_by s.front s.code s.after left q end rest (nat_eq left (length rest)) s.whole s.place refl sums s.before (refused_begins s.front s.code s.refused))
 
 pub some_bytes : (rest : List ℕ) (t : Bool) → t ≡ nat_eq (length rest) 0 → t ≡ false → rest ≢ []
-some_bytes rest t is no e = let yes : nat_eq (length rest) 0 ≡ true = eq-eqb _ _ (ap length e) in absurd cc
+some_bytes rest t is not_so e = let yes : nat_eq (length rest) 0 ≡ true = eq-eqb _ _ (ap length e) in absurd cc
