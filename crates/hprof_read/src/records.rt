@@ -1,10 +1,10 @@
 //! The records of a dump.
-ghost use Rattle.std.specs.Prelude.{◌≡◌, ◌≢◌, ◌+◌, ◌<◌, ◌^◌, ◌≤◌, ◌++◌, length, IfOk, IfErr};
+ghost use Rattle.std.specs.Prelude.{◌≡◌, ◌≢◌, ◌+◌, ◌<◌, ◌^◌, ◌≤◌, ◌++◌, length, IsTrue, IfOk, IfErr};
 ghost use Rattle.std.specs.List.{All};
 ghost use Rattle.hprof_records.specs.Parts.{bytes_of_parts};
 ghost use Rattle.hprof_records.specs.Records.{tag_of, time_of, body_of, bytes_of_record};
-ghost use Rattle.hprof_records.specs.Formed.{IsPart};
-ghost use Rattle.hprof_records.specs.Dump.{HasFields, IsRecord};
+ghost use Rattle.hprof_records.specs.Formed.{IsPart, is_one_of};
+ghost use Rattle.hprof_records.specs.Dump.{segment_tags, HasFields, IsRecord};
 ghost use Rattle.hprof_read.specs.Reading.{Gives, frame, text_of, load_of, trace_of, past_of, part_fault, with_place, IsWithin};
 ghost use Rattle.hprof_read.specs.Fault.{BodyFault, ContentFault, NoRecord, RecordFault};
 
@@ -126,6 +126,30 @@ fn read_parts(alloc: Global, body: &[u8], at: u64) -> Result<SubList, ReadError>
     Ok(parts)
 }
 
+/// The segment with this tag, time and body, which stands at a place.
+fn read_segment(
+    alloc: Global,
+    tag: u8,
+    time: u32,
+    body: &[u8],
+    at: u64,
+) -> Result<TopRecord, ReadError>
+    requires known { IsTrue (is_one_of segment_tags tag) }
+    requires place { at + length body.now < 2 ^ 64 }
+    requires short { length body.now < 2 ^ 32 }
+    ensures found { IfOk result (λ r. HasFields r × (tag_of r ≡ tag) × (time_of r ≡ time) × (body_of r ≡ body.now)) }
+    ensures fault { IfErr result (λ e. e ≢ ReadError.OutOfMemory → BodyFault e body.now at) }
+{
+    let parts = read_parts(alloc, body, at)?;
+    let length = body.len() as u32;
+    Ok(TopRecord::Segment {
+        time,
+        tag,
+        length,
+        parts,
+    })
+}
+
 /// The record with this tag, time and body. The record stands at a place, and its body 9 bytes behind.
 fn read_body(
     alloc: Global,
@@ -143,16 +167,8 @@ fn read_body(
         0x01 => fields_of(read_text(alloc, time, body), at),
         0x02 => fields_of(read_load(alloc, time, body), at),
         0x05 => fields_of(read_trace(alloc, time, body), at),
-        0x0c | 0x1c => {
-            let parts = read_parts(alloc, body, at + 9)?;
-            let length = body.len() as u32;
-            Ok(TopRecord::Segment {
-                time,
-                tag,
-                length,
-                parts,
-            })
-        }
+        0x0c => read_segment(alloc, tag, time, body, at + 9),
+        0x1c => read_segment(alloc, tag, time, body, at + 9),
         _ => {
             let body = Bytes::of(alloc, body)?;
             Ok(TopRecord::Other { time, tag, body })

@@ -42,5 +42,5 @@ pub returns-in_ok-body-in_default-clause-found : goal.returns-in_ok-body-in_defa
 returns-in_ok-body-in_default-clause-found c =
     let body = c.args.body.now in
     let fits : AreBytes body = all_bytes body (λ i. omega (arith, c.type_inv.body i)) in
-    let none = none_of c.args.tag (λ e. omega arith) (λ e. omega arith) (λ e. omega arith) (λ e. absurd (?)) (λ e. ?) in
+    let none = none_of c.args.tag (λ e. omega arith) (λ e. omega arith) (λ e. omega arith) (λ e. omega arith) (λ e. omega arith) in
     ((omega arith, none, subst AreBytes (sym c.in_ok-body-in_default.ensures) fits), refl, refl, c.in_ok-body-in_default.ensures)
