@@ -2,9 +2,11 @@
 #![tactic(auto)]
 
 mod class_parts;
+mod counts;
 mod dump;
 mod fields;
 mod parts;
+mod put;
 mod read_error;
 mod records;
 
