@@ -1,8 +1,10 @@
 -- How puts follow one another.
-use Rattle.std.proofs.Common.{◌≡◌, ℕ, zero, suc, ◌+◌, ◌-◌, ◌^◌, ◌≤◌, ◌<◌, ◌⊎◌, inl, inr, List, [], ◌∷◌, ◌++◌, Option, Some, None, Result, Ok, Err, length, take, drop, map, refl, sym, ap, subst, ◌∙◌, append_assoc, arith}
+use Rattle.std.proofs.Common.{◌≡◌, ℕ, zero, suc, ◌+◌, ◌-◌, ◌^◌, ◌≤◌, ◌<◌, ◌⊎◌, inl, inr, List, [], ◌∷◌, ◌++◌, Option, Some, None, Result, Ok, Err, length, get_or, take, drop, map, refl, sym, ap, subst, ◌∙◌, append_assoc, arith}
+use Rattle.std.proofs.Common.{Bor}
 use Rattle.std.specs.List.{flat_map}
 use Rattle.std.proofs.lemmas.Bool.{cases_lt}
-use Rattle.std.proofs.lemmas.List.{append-nil, length-append, length-take, take-append-le, take_min}
+use Rattle.std.proofs.lemmas.List.{append-nil, take_all, take-append-drop, take_more}
+use Rattle.std.proofs.lemmas.List.Concat.{flat_map-append}
 use Rattle.ah_outside.specs.Outside.{FaultRose, Gained, GainedPrefix}
 use Rattle.ah_outside.specs.declared.source.Failed.{Failed}
 use Rattle.hprof_read.specs.Putting.{Puts, joined}
@@ -49,3 +51,35 @@ puts_stop g f a b g' f' e p = (p.0, (prefix_front g a b g' p.1.0, p.1.1))
 pub joined-append : (pieces : List (List ℕ)) (rest : List ℕ) → joined pieces rest ≡ joined pieces [] ++ rest
 joined-append [] rest = refl
 joined-append (p ∷ ps) rest = ap (λ (t : List ℕ). p ++ t) (joined-append ps rest) ∙ sym (append_assoc p (joined ps []) rest)
+
+-- a loop that puts the text of each element
+abbrev pub SoFar : {X : Type 0} → (X → List ℕ) → List X → ℕ → Option (List ℕ) → ℕ → Option (List ℕ) → ℕ → Type 0
+SoFar f xs i g n g' n' = (n ≤ n') × Gained g (flat_map f (take i xs)) g'
+
+flat_more : {X : Type 0} (f : X → List ℕ) (xs : List X) (i : ℕ) (d : X) → i < length xs → flat_map f (take (i + 1) xs) ≡ flat_map f (take i xs) ++ f (get_or xs i d)
+flat_more f xs i d lt =
+    ap (flat_map f) (take_more xs i d lt) ∙ flat_map-append f (take i xs) (get_or xs i d ∷ []) ∙ ap (λ (t : List ℕ). flat_map f (take i xs) ++ t) (append-nil (f (get_or xs i d)))
+
+pub each_more : {X : Type 0} (f : X → List ℕ) (xs : List X) (i : ℕ) (d : X) (g : Option (List ℕ)) (n : ℕ) (g' : Option (List ℕ)) (n' : ℕ) (g'' : Option (List ℕ)) (n'' : ℕ) → i < length xs → SoFar f xs i g n g' n' → (n' ≤ n'') × Gained g' (f (get_or xs i d)) g'' → SoFar f xs (i + 1) g n g'' n''
+each_more f xs i d g n g' n' g'' n'' lt h p =
+    (omega arith, subst (λ (t : List ℕ). Gained g t g'') (sym (flat_more f xs i d lt)) (gained_append g (flat_map f (take i xs)) g' (f (get_or xs i d)) g'' h.1 p.1))
+
+pub each_stop : {X : Type 0} (f : X → List ℕ) (xs : List X) (i : ℕ) (d : X) (g : Option (List ℕ)) (n : ℕ) (g' : Option (List ℕ)) (n' : ℕ) (g'' : Option (List ℕ)) (n'' : ℕ) → i < length xs → SoFar f xs i g n g' n' → (n' ≤ n'') × (GainedPrefix g' (f (get_or xs i d)) g'' × FaultRose n' n'')
+    → (n ≤ n'') × (GainedPrefix g (flat_map f xs) g'' × FaultRose n n'')
+each_stop f xs i d g n g' n' g'' n'' lt h p =
+    let front = prefix_behind g (flat_map f (take i xs)) g' (f (get_or xs i d)) g'' h.1 p.1.0 in
+    let more = prefix_front g (flat_map f (take i xs) ++ f (get_or xs i d)) (flat_map f (drop (i + 1) xs)) g'' front in
+    let whole : (flat_map f (take i xs) ++ f (get_or xs i d)) ++ flat_map f (drop (i + 1) xs) ≡ flat_map f xs =
+        ap (λ (t : List ℕ). t ++ flat_map f (drop (i + 1) xs)) (sym (flat_more f xs i d lt)) ∙ sym (flat_map-append f (take (i + 1) xs) (drop (i + 1) xs)) ∙ ap (flat_map f) (take-append-drop (i + 1) xs) in
+    (omega arith, (subst (λ (t : List ℕ). GainedPrefix g t g'') whole more, rose_from n n' n'' h.0 p.0 p.1.1))
+
+pub each_done : {X : Type 0} (f : X → List ℕ) (xs : List X) (i : ℕ) (g : Option (List ℕ)) (n : ℕ) (g' : Option (List ℕ)) (n' : ℕ) → length xs ≤ i → SoFar f xs i g n g' n' → (n ≤ n') × Gained g (flat_map f xs) g'
+each_done {X} f xs i g n g' n' le h = (h.0, subst (λ (t : List X). Gained g (flat_map f t) g') (take_all i xs le) h.1)
+
+pub joined_flat : {X : Type 0} (f : X → List ℕ) (xs : List X) → joined (map f xs) [] ≡ flat_map f xs
+joined_flat f [] = refl
+joined_flat f (x ∷ xs) = ap (λ (t : List ℕ). f x ++ t) (joined_flat f xs)
+
+-- what a piece is
+abbrev pub now_of : Bor (List ℕ) → List ℕ
+now_of p = p.now

@@ -57,17 +57,21 @@ static_line s = concat (codes "static " ∷ decimal s.0 ∷ codes " type " ∷ d
 abbrev pub field_line : ℕ × ℕ → List ℕ
 field_line f = concat (codes "field " ∷ decimal f.0 ∷ codes " type " ∷ decimal f.1 ∷ codes "\n" ∷ [])
 
+abbrev pub class_line : ℕ → ℕ → ℕ → ℕ → ℕ → ℕ → ℕ → ℕ → ℕ → ℕ → List ℕ
+class_line id stack parent loader signers domain size constants statics fields =
+    concat (codes "class " ∷ id_text id ∷ codes " stack " ∷ decimal stack ∷ codes " super " ∷ id_text parent
+    ∷ codes " loader " ∷ id_text loader ∷ codes " signers " ∷ id_text signers ∷ codes " domain " ∷ id_text domain
+    ∷ codes " size " ∷ decimal size ∷ codes " constants " ∷ decimal constants
+    ∷ codes " statics " ∷ decimal statics ∷ codes " fields " ∷ decimal fields ∷ codes "\n" ∷ [])
+
 -- a part's own line, and those of a class's lists
 abbrev pub part_lines : SubRecord → List ℕ
 part_lines (Root tag id first second) =
     concat (codes "root " ∷ tag_text tag ∷ codes " " ∷ id_text id ∷ further_text first ∷ further_text second ∷ codes "\n" ∷ [])
 part_lines (HeapInfo heap name) = concat (codes "heap " ∷ decimal heap ∷ codes " name " ∷ decimal name ∷ codes "\n" ∷ [])
 part_lines (ClassDump id stack parent loader signers domain spare_a spare_b size constants statics fields) =
-    concat (concat (codes "class " ∷ id_text id ∷ codes " stack " ∷ decimal stack ∷ codes " super " ∷ id_text parent
-    ∷ codes " loader " ∷ id_text loader ∷ codes " signers " ∷ id_text signers ∷ codes " domain " ∷ id_text domain
-    ∷ codes " size " ∷ decimal size ∷ codes " constants " ∷ decimal (length constants)
-    ∷ codes " statics " ∷ decimal (length statics) ∷ codes " fields " ∷ decimal (length fields) ∷ codes "\n" ∷ [])
-    ∷ flat_map constant_line constants ∷ flat_map static_line statics ∷ flat_map field_line fields ∷ [])
+    class_line id stack parent loader signers domain size (length constants) (length statics) (length fields)
+    ++ (flat_map constant_line constants ++ (flat_map static_line statics ++ flat_map field_line fields))
 part_lines (Instance id stack class bytes) =
     concat (codes "instance " ∷ id_text id ∷ codes " stack " ∷ decimal stack ∷ codes " class " ∷ id_text class
     ∷ codes " " ∷ value_text bytes ∷ codes "\n" ∷ [])
@@ -123,4 +127,4 @@ last_line records =
 
 -- the listing of a dump with this time and these records
 abbrev pub listing : ℕ → List TopRecord → List ℕ
-listing time records = concat (header_line time ∷ flat_map record_lines records ∷ last_line records ∷ [])
+listing time records = header_line time ++ (flat_map record_lines records ++ last_line records)

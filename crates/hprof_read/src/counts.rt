@@ -38,10 +38,10 @@ fn count_parts(sort: Sort, parts: &[SubRecord]) -> usize
     count
 }
 
-fn count_in(sort: Sort, record: &TopRecord) -> usize
-    ensures { result ≡ count_by (is_of sort) (parts_of record.now) }
+fn count_in(sort: Sort, one: &TopRecord) -> usize
+    ensures { result ≡ count_by (is_of sort) (parts_of one.now) }
 {
-    match record {
+    match one {
         TopRecord::Segment { parts, .. } => count_parts(sort, parts.as_slice()),
         _ => 0,
     }
@@ -52,8 +52,8 @@ pub fn count_sort(sort: Sort, records: &[TopRecord]) -> u128
     ensures { result ≡ count_of sort records.now }
 {
     let mut total: u128 = 0;
-    for record in records {
-        total += count_in(sort, record) as u128;
+    for one in records {
+        total += count_in(sort, one) as u128;
     }
     total
 }
