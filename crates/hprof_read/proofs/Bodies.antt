@@ -1,13 +1,12 @@
 -- Records: what their bodies say, and where a record begins and ends.
-use Rattle.std.proofs.Common.{◌≡◌, ◌≢◌, ℕ, zero, suc, ◌+◌, ◌-◌, ◌^◌, ◌≤◌, ◌<◌, ◌⊎◌, inl, inr, Bool, true, false, cond, List, [], ◌∷◌, ◌++◌, length, take, drop, ltb, Result, Ok, Err, refl, sym, ap, subst, ◌∙◌, append_assoc, arith, All}
-use Rattle.std.specs.Prelude.{nat_eq, IfOk, IfErr, IsTrue}
+use Rattle.std.proofs.Common.{◌≡◌, ◌≢◌, ℕ, suc, ◌+◌, ◌≤◌, ◌<◌, ◌⊎◌, inl, inr, Bool, true, false, cond, List, [], ◌∷◌, ◌++◌, length, take, drop, ltb, Result, Ok, Err, refl, sym, ap, subst, ◌∙◌, append_assoc, arith}
+use Rattle.std.specs.Prelude.{IfOk, IfErr, IsTrue}
 use Rattle.std.specs.Int.{Width, w8, w32, byte_len, from_be_bytes}
-use Rattle.std.specs.List.{flat_map, concat}
-use Rattle.std.proofs.lemmas.List.{append-nil, length-append, append_cancel_left}
+use Rattle.std.specs.List.{flat_map}
+use Rattle.std.proofs.lemmas.List.{append-nil, length-append}
 use Rattle.std.proofs.lemmas.List.Elements.{All-nil, All-append, All-push}
 use Rattle.std.proofs.lemmas.List.Concat.{flat_map-append}
 use Rattle.std.proofs.lemmas.Bool.{ne_eqb}
-use Rattle.hprof_records.specs.declared.sub_record.SubRecord.{SubRecord}
 use Rattle.hprof_records.specs.declared.top_record.TopRecord.{TopRecord}
 use Rattle.hprof_records.specs.declared.top_record.TopRecord.TheVariants.{Text, LoadClass, Trace, Segment, Other}
 use Rattle.hprof_records.specs.Fields.{field}
@@ -23,7 +22,7 @@ use Rattle.hprof_read.specs.declared.read_error.ReadError.{ReadError}
 use Rattle.hprof_read.specs.declared.read_error.ReadError.TheVariants as errors
 use Rattle.hprof_read.specs.Reading.{Reader, ◌>>=◌, Gives, Fails, number, raw, made, both, counted, counted_bytes, triple, frame, text_head, load_head, trace_head, text_of, load_of, trace_of, with_place, part_at}
 use Rattle.hprof_read.specs.Fault.{framed, IsFramed, IsCut, NoRecord, NoPart, BodyFault, field_tags, LacksFields, ContentFault, RecordFault}
-use Rattle.hprof_read.proofs.Formats.{AreBytes, AreBytes-right, GoesOn, IsFormat, bind_ok, bind_err, ok_is, both_format, times_format}
+use Rattle.hprof_read.proofs.Formats.{AreBytes, AreBytes-right, IsFormat, bind_ok, bind_err, ok_is, both_format, times_format}
 use Rattle.hprof_read.proofs.FieldFormats.{byte_format, word_format}
 use Rattle.hprof_read.proofs.PartFormats.{Triple, triple_text, TripleFits, triple_format, counted_text, CountedFits, counted_format, long_text, LongFits, long_format}
 use Rattle.hprof_read.proofs.PartsByTag.{part_format, listed}
@@ -46,7 +45,7 @@ text_takes time body r fits e =
     let one = word_format.takes body x.0 x.1 fits a.1.0 in
     let rest_fits : AreBytes x.1 = AreBytes-right (word x.0) x.1 (subst AreBytes one.0 fits) in
     subst (IsRead 1 time body) (ok_is (Text time x.0 x.1) r a.1.1)
-        ((one.1, rest_fits), refl, refl, ap (λ (t : List ℕ). word x.0 ++ t) (append-nil x.1) ∙ sym one.0)
+    ((one.1, rest_fits), refl, refl, ap (λ (t : List ℕ). word x.0 ++ t) (append-nil x.1) ∙ sym one.0)
 
 -- ---- loaded classes
 
@@ -71,7 +70,7 @@ load_takes time body r fits e =
     let one = load_format.takes body x.0 x.1 fits a.1.0 in
     let rest_fits : AreBytes x.1 = AreBytes-right (load_text x.0) x.1 (subst AreBytes one.0 fits) in
     subst (IsRead 2 time body) (ok_is (LoadClass time x.0.0.0 x.0.0.1.0 x.0.0.1.1 x.0.1 x.1) r a.1.1)
-        ((one.1.0.0, one.1.0.1.0, one.1.0.1.1, one.1.1, rest_fits), refl, refl, ap (λ (t : List ℕ). load_text x.0 ++ t) (append-nil x.1) ∙ sym one.0)
+    ((one.1.0.0, one.1.0.1.0, one.1.0.1.1, one.1.1, rest_fits), refl, refl, ap (λ (t : List ℕ). load_text x.0 ++ t) (append-nil x.1) ∙ sym one.0)
 
 -- ---- stack traces
 
@@ -98,7 +97,7 @@ trace_takes time body r fits e =
     let one = trace_format.takes body x.0 x.1 fits a.1.0 in
     let rest_fits : AreBytes x.1 = AreBytes-right (trace_text x.0) x.1 (subst AreBytes one.0 fits) in
     subst (IsRead 5 time body) (ok_is (Trace time x.0.0.0 x.0.0.1 x.0.1 x.1) r a.1.1)
-        ((one.1.0.0, one.1.0.1, one.1.1.0, one.1.1.1, rest_fits), refl, refl, ap (λ (t : List ℕ). (word x.0.0.0 ++ word x.0.0.1) ++ (word (length x.0.1) ++ (flat_map word x.0.1 ++ t))) (append-nil x.1) ∙ sym (one.0 ∙ append_assoc (word x.0.0.0 ++ word x.0.0.1) (long_text (number w32) word IsWord x.0.1) x.1))
+    ((one.1.0.0, one.1.0.1, one.1.1.0, one.1.1.1, rest_fits), refl, refl, ap (λ (t : List ℕ). (word x.0.0.0 ++ word x.0.0.1) ++ (word (length x.0.1) ++ (flat_map word x.0.1 ++ t))) (append-nil x.1) ∙ sym (one.0 ∙ append_assoc (word x.0.0.0 ++ word x.0.0.1) (long_text (number w32) word IsWord x.0.1) x.1))
 
 -- ---- where no fields give a body
 
@@ -169,7 +168,7 @@ pub kind_fault : (n tag at : ℕ) (body : List ℕ) (list : Result TopRecord Sto
     → IfErr result (λ e. e ≢ errors.OutOfMemory → ContentFault e tag body at)
 kind_fault n tag at body list read result is fields f given placed =
     let told : IfErr (with_place read at) (λ e. e ≢ errors.OutOfMemory → ContentFault e n body at) =
-        placed_fault read list at (IsTrue (is_one_of field_tags n) × LacksFields n body) (λ e. IsTrue (is_one_of segment_tags n) × BodyFault e body (at + 9)) given (λ s e. (fields, f s e)) in
+    placed_fault read list at (IsTrue (is_one_of field_tags n) × LacksFields n body) (λ e. IsTrue (is_one_of segment_tags n) × BodyFault e body (at + 9)) given (λ s e. (fields, f s e)) in
     subst (λ (g : ℕ). IfErr result (λ e. e ≢ errors.OutOfMemory → ContentFault e g body at)) (sym is) (subst (λ (q : Result TopRecord ReadError). IfErr q (λ e. e ≢ errors.OutOfMemory → ContentFault e n body at)) (sym placed) told)
 
 -- ---- frames
@@ -226,9 +225,9 @@ module _ {A B : Type 0} (first : Reader A) (second : A → Reader B) where
       elim (bind_err (first bytes) then_two (Refused left) e) [
         | inl h ↦ f bytes left h
         | inr a ↦ elim (bind_err (second a.0.0 a.0.1) (two a.0.0) (Refused left) a.1.1) [
-            | inl h ↦ g a.0.0 a.0.1 left h
-            | inr b ↦ absurd cc
-          ]
+          | inl h ↦ g a.0.0 a.0.1 left h
+          | inr b ↦ absurd cc
+        ]
       ]
 
 module _ {A B : Type 0} (read : Reader A) (make : A → B) where
@@ -237,7 +236,7 @@ module _ {A B : Type 0} (read : Reader A) (make : A → B) where
 
   made_calm : IsCalm read → IsCalm (made make read)
   made_calm f bytes left e =
-      elim (bind_err (read bytes) one_made (Refused left) e) [ | inl h ↦ f bytes left h | inr a ↦ absurd cc ]
+      elim (bind_err (read bytes) one_made (Refused left) e) [ inl h ↦ f bytes left h | inr a ↦ absurd cc ]
 
 abbrev second_of : ℕ × List ℕ → List ℕ
 second_of x = x.1
@@ -279,7 +278,7 @@ pub record_stands : (bytes : List ℕ) (tag time : ℕ) (body rest : List ℕ) (
 record_stands bytes tag time body rest r fits e is =
     let one = framed_stands bytes tag time body rest fits e in
     let same : framed tag time body ≡ bytes_of_record r =
-        ap (λ (g : ℕ). framed g time body) (sym is.1) ∙ ap (λ (t : ℕ). framed (tag_of r) t body) (sym is.2) ∙ ap (λ (b : List ℕ). framed (tag_of r) (time_of r) b) (sym is.3) in
+    ap (λ (g : ℕ). framed g time body) (sym is.1) ∙ ap (λ (t : ℕ). framed (tag_of r) t body) (sym is.2) ∙ ap (λ (b : List ℕ). framed (tag_of r) (time_of r) b) (sym is.3) in
     ((subst IsWord (sym is.2) one.1.1, is.0, subst (λ (b : List ℕ). IsWord (length b)) (sym is.3) one.1.2), one.0 ∙ ap (λ (t : List ℕ). t ++ rest) same)
 
 abbrev FrameParts : Type 0
@@ -296,9 +295,10 @@ no_record bytes tag time body rest e lacks r more fit whole =
 pub cut_record : (bytes : List ℕ) (s : Stop) → AreBytes bytes → frame bytes ≡ Err s → NoRecord bytes × IsCut bytes
 cut_record bytes Short fits e =
     let h = frame_format.short bytes fits e in
-    let f = h.0 in
-    ((λ r more fit whole. let both = sym (record_again r more fit) ∙ ap frame (sym whole) ∙ e in absurd cc),
-     (f.0, f.1.0, f.1.1, h.1, h.2, ((h.3.0.0, h.3.0.1.0, h.3.0.1.1.0, h.3.0.1.1.1), framed_is f.0 f.1.0 f.1.1 ∙ h.3.1)))
+    let f = h.0 in (
+      (λ r more fit whole. let both = sym (record_again r more fit) ∙ ap frame (sym whole) ∙ e in absurd cc),
+      (f.0, f.1.0, f.1.1, h.1, h.2, ((h.3.0.0, h.3.0.1.0, h.3.0.1.1.0, h.3.0.1.1.1), framed_is f.0 f.1.0 f.1.1 ∙ h.3.1)),
+    )
 cut_record bytes (Refused left) fits e = absurd (frame_calm bytes left e)
 
 -- ---- a body's fault leaves no fields
@@ -320,7 +320,7 @@ segment_lacks e tag body at s f (Other t g bytes) fit same whole =
 
 pub content_lacks : (e : ReadError) (tag : ℕ) (body : List ℕ) (o : ℕ) → ContentFault e tag body o → LacksFields tag body
 content_lacks e tag body o f =
-    elim f [ | inl h ↦ h.1.1 | inr h ↦ segment_lacks e tag body (o + 9) h.0 h.1 ]
+    elim f [ inl h ↦ h.1.1 | inr h ↦ segment_lacks e tag body (o + 9) h.0 h.1 ]
 
 pub record_fault : (e : ReadError) (bytes : List ℕ) (tag time : ℕ) (body rest : List ℕ) (o : ℕ) → AreBytes bytes → frame bytes ≡ Ok ((tag, (time, body)), rest) → ContentFault e tag body o → NoRecord bytes × RecordFault e bytes o
 record_fault e bytes tag time body rest o fits read f =
@@ -347,7 +347,7 @@ pub record_read : (text : List ℕ) (records : List TopRecord) (rest : List ℕ)
     → OneMoreRecord text (records ++ r ∷ []) rest after
 record_read text records rest r after whole formed fit here =
     let joined : bytes_of_records (records ++ r ∷ []) ≡ bytes_of_records records ++ bytes_of_record r =
-        flat_map-append bytes_of_record records (r ∷ []) ∙ ap (λ (t : List ℕ). bytes_of_records records ++ t) (append-nil (bytes_of_record r)) in
+    flat_map-append bytes_of_record records (r ∷ []) ∙ ap (λ (t : List ℕ). bytes_of_records records ++ t) (append-nil (bytes_of_record r)) in
     let long : length rest ≡ suc (suc (suc (suc (suc (suc (suc (suc (suc (length ((body_of r ++ []) ++ after)))))))))) = ap length here in
     record {
       whole = whole ∙ ap (λ (t : List ℕ). bytes_of_records records ++ t) here ∙ sym (append_assoc (bytes_of_records records) (bytes_of_record r) after) ∙ ap (λ (t : List ℕ). t ++ after) (sym joined);

@@ -1,17 +1,16 @@
 -- The formats of single fields: numbers, bytes as they stand, bytes that pass a test, and counts before values.
-use Rattle.std.proofs.Common.{◌≡◌, ℕ, zero, suc, ◌+◌, ◌-◌, ◌^◌, ◌≤◌, ◌<◌, Bool, true, false, cond, ltb, List, [], ◌∷◌, ◌++◌, length, get_or, take, drop, replicate, Result, Ok, Err, refl, sym, ap, subst, ◌∙◌, append_assoc, arith, All, inl, inr}
-use Rattle.std.specs.Int.{Width, byte_at, w8, w16, w32, w64, byte_len, from_be_bytes, to_be_bytes}
-use Rattle.std.specs.List.{flat_map}
+use Rattle.std.proofs.Common.{◌≡◌, ℕ, zero, suc, ◌-◌, ◌^◌, ◌≤◌, ◌<◌, Bool, true, false, cond, ltb, List, [], ◌∷◌, ◌++◌, length, get_or, take, drop, replicate, Ok, Err, refl, sym, ap, subst, ◌∙◌, arith, inl, inr}
+use Rattle.std.specs.Int.{Width, byte_at, w8, w16, w32, byte_len, from_be_bytes, to_be_bytes}
 use Rattle.std.proofs.lemmas.Bool.{cases_lt, ltb-false, ltb-true, le-ltb}
-use Rattle.std.proofs.lemmas.List.{length-replicate, take_at, drop_at, take-append-drop, length-append, length-take, length-drop, get_or_past}
+use Rattle.std.proofs.lemmas.List.{length-replicate, take_at, drop_at, take-append-drop, length-append, length-take, get_or_past}
 use Rattle.std.proofs.lemmas.List.Elements.{All-nil, All-cons, All-append, All-replicate, All-take, All-get_or, All-head}
-use Rattle.std.proofs.lemmas.Nat.{be_bytes_2, be_bytes_4, be_bytes_8, from_be_bytes-to_be_bytes_2, from_be_bytes-to_be_bytes_4, from_be_bytes-to_be_bytes_8}
+use Rattle.std.proofs.lemmas.Nat.{be_bytes_2, be_bytes_4, from_be_bytes-to_be_bytes_2, from_be_bytes-to_be_bytes_4}
 use Rattle.hprof_records.specs.Fields.{field}
 use Rattle.hprof_records.specs.Formed.{IsByte}
 use Rattle.hprof_read.specs.declared.fields.Stop.{Stop}
 use Rattle.hprof_read.specs.declared.fields.Stop.TheVariants.{Short, Refused}
-use Rattle.hprof_read.specs.Reading.{Reader, number, raw, checked, both, made, times, counted}
-use Rattle.hprof_read.proofs.Formats.{AreBytes, GoesOn, StopsAt, IsFormat, IsMade, SoMany, ok_is, both_format, both_text, BothFit, made_format, times_format}
+use Rattle.hprof_read.specs.Reading.{number, raw, checked}
+use Rattle.hprof_read.proofs.Formats.{AreBytes, GoesOn, StopsAt, IsFormat, SoMany}
 
 -- a test that let a value through, and one that didn't
 pub guard_ok : {A : Type 0} (t : Bool) (d : Stop) (x y : A) → cond t (Err d) (Ok x) ≡ Ok y → (t ≡ false) × (x ≡ y)
@@ -113,7 +112,7 @@ module _ (w : Width) (limit : ℕ) (wide : IsWide w limit) where
       let are : AreBytes front = All-take IsByte (byte_len w) bytes fits in
       let stands : number_text (from_be_bytes w front) ≡ front = wide.back front (omega (arith, length-take (byte_len w) bytes)) are in
       subst (λ (q : ℕ × List ℕ). (bytes ≡ number_text q.0 ++ q.1) × (q.0 < limit)) g.1
-          (rw stands (sym (take-append-drop (byte_len w) bytes)), wide.below front are)
+      (rw stands (sym (take-append-drop (byte_len w) bytes)), wide.below front are)
 
   number_short : (bytes : List ℕ) → AreBytes bytes → number w bytes ≡ Err Short → GoesOn number_text NumberFits bytes
   number_short bytes fits e =
@@ -133,9 +132,9 @@ module _ (w : Width) (limit : ℕ) (wide : IsWide w limit) where
     octets = λ n lt. field_octets (byte_len w) n;
     short = number_short;
     bad = λ bytes left fits e.
-      let got : ℕ × List ℕ = (from_be_bytes w (take (byte_len w) bytes), drop (byte_len w) bytes) in
-      let g = guard_err (ltb (length bytes) (byte_len w)) Short (Refused left) got e in
-      absurd cc;
+        let got : ℕ × List ℕ = (from_be_bytes w (take (byte_len w) bytes), drop (byte_len w) bytes) in
+        let g = guard_err (ltb (length bytes) (byte_len w)) Short (Refused left) got e in
+        absurd cc;
   }
 
 pub byte_format : IsFormat (number w8) (field 1) (λ n. n < 2 ^ 8)
@@ -163,7 +162,7 @@ raw_takes n bytes xs rest fits e =
     let g = guard_ok (ltb (length bytes) n) Short got (xs, rest) e in
     let long : n ≤ length bytes = ltb-false _ _ g.0 in
     subst (λ (q : List ℕ × List ℕ). (bytes ≡ q.0 ++ q.1) × SoMany IsByte n q.0) g.1
-        (sym (take-append-drop n bytes), (omega (arith, length-take n bytes), All-take IsByte n bytes fits))
+    (sym (take-append-drop n bytes), (omega (arith, length-take n bytes), All-take IsByte n bytes fits))
 
 raw_short : (n : ℕ) (bytes : List ℕ) → AreBytes bytes → raw n bytes ≡ Err Short → GoesOn same_bytes (SoMany IsByte n) bytes
 raw_short n bytes fits e =
@@ -181,9 +180,9 @@ raw_format n = record {
   octets = λ xs fit. fit.1;
   short = raw_short n;
   bad = λ bytes left fits e.
-    let got : List ℕ × List ℕ = (take n bytes, drop n bytes) in
-    let g = guard_err (ltb (length bytes) n) Short (Refused left) got e in
-    absurd cc;
+      let got : List ℕ × List ℕ = (take n bytes, drop n bytes) in
+      let g = guard_err (ltb (length bytes) n) Short (Refused left) got e in
+      absurd cc;
 }
 
 -- ---- a byte that passes a test
@@ -229,12 +228,21 @@ module _ (test : ℕ → Bool) (good : ℕ) (passes : test good ≡ true) (small
       let g = chosen_err (test b) got (Refused (suc (length bytes))) (Refused left) e in
       let same : left ≡ suc (length bytes) = cc in
       record {
-        front = []; code = b; after = bytes; whole = refl; place = same;
+        front = [];
+        code = b;
+        after = bytes;
+        whole = refl;
+        place = same;
         before = (good, good, [], (passes, cell good (small good passes)));
         refused = λ rest. rw g.0 refl;
       }
 
   pub checked_format : IsFormat (checked test) (field 1) Passes
   checked_format = record {
-    again = checked_again; takes = checked_takes; some = (good, passes); octets = λ c h. field_octets 1 c; short = checked_short; bad = checked_bad;
+    again = checked_again;
+    takes = checked_takes;
+    some = (good, passes);
+    octets = λ c h. field_octets 1 c;
+    short = checked_short;
+    bad = checked_bad;
   }

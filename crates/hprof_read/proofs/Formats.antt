@@ -1,8 +1,7 @@
 -- Formats: a reader, the bytes that it reads a value from, and which values have bytes. What is read stands there, what
 -- stands there is read, and where reading stops the bytes before that place could go on.
-use Rattle.std.proofs.Common.{◌≡◌, ℕ, zero, suc, ◌+◌, ◌≤◌, ◌<◌, ◌⊎◌, inl, inr, Bool, true, false, cond, List, [], ◌∷◌, ◌++◌, length, Result, Ok, Err, refl, sym, ap, subst, ◌∙◌, append_assoc, arith, All}
+use Rattle.std.proofs.Common.{◌≡◌, ℕ, zero, suc, ◌⊎◌, inl, inr, List, [], ◌∷◌, ◌++◌, length, Result, Ok, Err, refl, sym, ap, subst, ◌∙◌, append_assoc, arith, All}
 use Rattle.std.specs.List.{flat_map}
-use Rattle.std.proofs.lemmas.List.{append-nil}
 use Rattle.std.proofs.lemmas.List.Elements.{All-cons, All-nil, All-head, All-tail, All-drop, All-append}
 use Rattle.std.proofs.Math.Seq.{drop-append_seam}
 use Rattle.hprof_records.specs.Formed.{IsByte}
@@ -112,32 +111,38 @@ module _ {A B : Type 0} (first : Reader A) (text : A → List ℕ) (Fits : A →
       elim (bind_err (first bytes) behind Short e) [
         | inl h ↦ first_goes_on g bytes (f.short bytes fits h)
         | inr a ↦
-          let x = a.0 in
-          let one = f.takes bytes x.0 x.1 fits a.1.0 in
-          let fits' : AreBytes x.1 = AreBytes-right (text x.0) x.1 (subst AreBytes one.0 fits) in
-          elim (bind_err (second x.0 x.1) (paired x.0) Short a.1.1) [
-            | inl h ↦ subst (GoesOn both_text BothFit) (sym one.0) (second_goes_on x.0 x.1 one.1 ((g x.0 one.1).short x.1 fits' h))
-            | inr b ↦ absurd cc
-          ]
+            let x = a.0 in
+            let one = f.takes bytes x.0 x.1 fits a.1.0 in
+            let fits' : AreBytes x.1 = AreBytes-right (text x.0) x.1 (subst AreBytes one.0 fits) in
+            elim (bind_err (second x.0 x.1) (paired x.0) Short a.1.1) [
+              | inl h ↦ subst (GoesOn both_text BothFit) (sym one.0) (second_goes_on x.0 x.1 one.1 ((g x.0 one.1).short x.1 fits' h))
+              | inr b ↦ absurd cc
+            ]
       ]
 
   first_stops : ((a : A) → Fits a → IsFormat (second a) text' (Fits' a)) → (bytes : List ℕ) (left : ℕ) → StopsAt first text Fits bytes left → StopsAt (both first second) both_text BothFit bytes left
   first_stops g bytes left s = record {
-    front = s.front; code = s.code; after = s.after; whole = s.whole; place = s.place;
+    front = s.front;
+    code = s.code;
+    after = s.after;
+    whole = s.whole;
+    place = s.place;
     before = first_goes_on g s.front s.before;
     refused = λ rest. ap (λ (r : Result (A × List ℕ) Stop). r >>= behind) (s.refused rest);
   }
 
   second_stops : IsFormat first text Fits → (bytes : List ℕ) (a : A) (rest : List ℕ) (left : ℕ) → Fits a → bytes ≡ text a ++ rest → StopsAt (second a) text' (Fits' a) rest left → StopsAt (both first second) both_text BothFit bytes left
   second_stops f bytes a rest left fit e s = record {
-    front = text a ++ s.front; code = s.code; after = s.after;
+    front = text a ++ s.front;
+    code = s.code;
+    after = s.after;
     whole = e ∙ ap (λ (t : List ℕ). text a ++ t) s.whole ∙ sym (append_assoc (text a) s.front (s.code ∷ s.after));
     place = s.place;
     before = second_goes_on a s.front fit s.before;
     refused = λ more.
-      ap (λ (t : List ℕ). both first second t) (append_assoc (text a) s.front (s.code ∷ more))
-      ∙ ap (λ (r : Result (A × List ℕ) Stop). r >>= behind) (f.again a (s.front ++ s.code ∷ more) fit)
-      ∙ ap (λ (r : Result (B × List ℕ) Stop). r >>= paired a) (s.refused more);
+        ap (λ (t : List ℕ). both first second t) (append_assoc (text a) s.front (s.code ∷ more))
+        ∙ ap (λ (r : Result (A × List ℕ) Stop). r >>= behind) (f.again a (s.front ++ s.code ∷ more) fit)
+        ∙ ap (λ (r : Result (B × List ℕ) Stop). r >>= paired a) (s.refused more);
   }
 
   both_bad : IsFormat first text Fits → ((a : A) → Fits a → IsFormat (second a) text' (Fits' a)) → (bytes : List ℕ) (left : ℕ) → AreBytes bytes → both first second bytes ≡ Err (Refused left) → StopsAt (both first second) both_text BothFit bytes left
@@ -145,13 +150,13 @@ module _ {A B : Type 0} (first : Reader A) (text : A → List ℕ) (Fits : A →
       elim (bind_err (first bytes) behind (Refused left) e) [
         | inl h ↦ first_stops g bytes left (f.bad bytes left fits h)
         | inr a ↦
-          let x = a.0 in
-          let one = f.takes bytes x.0 x.1 fits a.1.0 in
-          let fits' : AreBytes x.1 = AreBytes-right (text x.0) x.1 (subst AreBytes one.0 fits) in
-          elim (bind_err (second x.0 x.1) (paired x.0) (Refused left) a.1.1) [
-            | inl h ↦ second_stops f bytes x.0 x.1 left one.1 one.0 ((g x.0 one.1).bad x.1 left fits' h)
-            | inr b ↦ absurd cc
-          ]
+            let x = a.0 in
+            let one = f.takes bytes x.0 x.1 fits a.1.0 in
+            let fits' : AreBytes x.1 = AreBytes-right (text x.0) x.1 (subst AreBytes one.0 fits) in
+            elim (bind_err (second x.0 x.1) (paired x.0) (Refused left) a.1.1) [
+              | inl h ↦ second_stops f bytes x.0 x.1 left one.1 one.0 ((g x.0 one.1).bad x.1 left fits' h)
+              | inr b ↦ absurd cc
+            ]
       ]
 
   pub both_format : IsFormat first text Fits → ((a : A) → Fits a → IsFormat (second a) text' (Fits' a)) → IsFormat (both first second) both_text BothFit
@@ -180,8 +185,8 @@ module _ {A B : Type 0} (read : Reader A) (text : A → List ℕ) (Fits : A → 
   made_again f m b rest fit =
       let a = m.from b fit in
       let here : made make read (text' (make a.0) ++ rest) ≡ Ok (make a.0, rest) =
-          ap (λ (t : List ℕ). made make read (t ++ rest)) (m.same a.0 a.1.0)
-          ∙ ap (λ (r : Result (A × List ℕ) Stop). r >>= finish) (f.again a.0 rest a.1.0) in
+      ap (λ (t : List ℕ). made make read (t ++ rest)) (m.same a.0 a.1.0)
+      ∙ ap (λ (r : Result (A × List ℕ) Stop). r >>= finish) (f.again a.0 rest a.1.0) in
       subst (λ (c : B). made make read (text' c ++ rest) ≡ Ok (c, rest)) a.1.1 here
 
   made_takes : IsFormat read text Fits → IsMade text Fits make text' Fits' → (bytes : List ℕ) (b : B) (rest : List ℕ) → AreBytes bytes → made make read bytes ≡ Ok (b, rest) → (bytes ≡ text' b ++ rest) × Fits' b
@@ -190,7 +195,7 @@ module _ {A B : Type 0} (read : Reader A) (text : A → List ℕ) (Fits : A → 
       let one = f.takes bytes a.0.0 a.0.1 fits a.1.0 in
       let got : B × List ℕ = (make a.0.0, a.0.1) in
       subst (λ (q : B × List ℕ). (bytes ≡ text' q.0 ++ q.1) × Fits' q.0) (ok_is got (b, rest) a.1.1)
-          (one.0 ∙ ap (λ (t : List ℕ). t ++ a.0.1) (sym (m.same a.0.0 one.1)), m.to a.0.0 one.1)
+      (one.0 ∙ ap (λ (t : List ℕ). t ++ a.0.1) (sym (m.same a.0.0 one.1)), m.to a.0.0 one.1)
 
   made_goes_on : IsMade text Fits make text' Fits' → (front : List ℕ) → GoesOn text Fits front → GoesOn text' Fits' front
   made_goes_on m front h = (make h.0, h.1, h.2, (m.to h.0 h.3.0, m.same h.0 h.3.0 ∙ h.3.1))
@@ -204,7 +209,11 @@ module _ {A B : Type 0} (read : Reader A) (text : A → List ℕ) (Fits : A → 
 
   made_stops : IsMade text Fits make text' Fits' → (bytes : List ℕ) (left : ℕ) → StopsAt read text Fits bytes left → StopsAt (made make read) text' Fits' bytes left
   made_stops m bytes left s = record {
-    front = s.front; code = s.code; after = s.after; whole = s.whole; place = s.place;
+    front = s.front;
+    code = s.code;
+    after = s.after;
+    whole = s.whole;
+    place = s.place;
     before = made_goes_on m s.front s.before;
     refused = λ rest. ap (λ (r : Result (A × List ℕ) Stop). r >>= finish) (s.refused rest);
   }

@@ -7,4 +7,3 @@ pub mod Segments
 pub mod Header
 pub mod Unique
 pub mod Bodies
-pub mod Putting

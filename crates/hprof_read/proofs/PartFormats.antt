@@ -1,22 +1,18 @@
 -- The formats of the parts of a segment.
-use Rattle.std.proofs.Common.{◌≡◌, ℕ, zero, suc, ◌+◌, ◌*◌, ◌^◌, ◌≤◌, ◌<◌, ◌⊎◌, inl, inr, Bool, true, false, cond, ltb, List, [], ◌∷◌, ◌++◌, length, Option, Some, None, Result, Ok, Err, refl, sym, ap, subst, ◌∙◌, append_assoc, arith, All}
+use Rattle.std.proofs.Common.{◌≡◌, ℕ, ◌<◌, inl, inr, Bool, true, false, cond, List, [], ◌∷◌, ◌++◌, length, refl, sym, ap, subst, ◌∙◌, arith, All}
 use Rattle.std.specs.Prelude.{nat_eq, nat_le}
-use Rattle.std.specs.Int.{w8, w16, w32, w64}
-use Rattle.std.specs.List.{flat_map, concat}
+use Rattle.std.specs.Int.{w16, w32}
+use Rattle.std.specs.List.{flat_map}
 use Rattle.std.proofs.lemmas.List.{append-nil}
 use Rattle.std.proofs.lemmas.List.Elements.{All-weaker}
 use Rattle.std.proofs.lemmas.Bool.{eqb-true, leb-true, le-leb}
-use Rattle.hprof_records.specs.declared.sub_record.SubRecord.{SubRecord}
-use Rattle.hprof_records.specs.declared.sub_record.SubRecord.TheVariants.{Root, HeapInfo, ClassDump, Instance, ObjectArray, PrimitiveArray, NoData}
 use Rattle.hprof_records.specs.Fields.{field}
 use Rattle.hprof_records.specs.Types.{value_bytes, IsType, IsPrimitive}
-use Rattle.hprof_records.specs.Parts.{word, constant_bytes, static_bytes, field_name_bytes, further_bytes, bytes_of_part}
-use Rattle.hprof_records.specs.Formed.{IsByte, IsHalf, IsWord, is_one_of, bare_tags, tags_with_one, tags_with_two, HasFurther, IsConstant, IsStatic, IsFieldName, IsPart}
-use Rattle.hprof_read.specs.declared.parts.Kind.{Kind}
-use Rattle.hprof_read.specs.declared.parts.Kind.TheVariants as kinds
-use Rattle.hprof_read.specs.Reading.{Reader, number, raw, checked, both, made, times, counted, counted_bytes, triple, is_primitive, is_type, typed, constant, static_field, field_name, constants, statics, field_names, kind_of, part_of_kind, bare_root, root_with_one, root_with_two, heap_info, class_dump, instance, object_array, primitive_array, no_data}
+use Rattle.hprof_records.specs.Parts.{word, constant_bytes, static_bytes, field_name_bytes}
+use Rattle.hprof_records.specs.Formed.{IsByte, IsHalf, IsWord, IsConstant, IsStatic, IsFieldName}
+use Rattle.hprof_read.specs.Reading.{Reader, number, raw, checked, both, times, counted, counted_bytes, triple, is_primitive, is_type, typed, constant, static_field, field_name, constants, statics, field_names}
 use Rattle.hprof_read.proofs.Formats.{IsFormat, IsMade, SoMany, both_format, both_text, BothFit, made_format, times_format}
-use Rattle.hprof_read.proofs.FieldFormats.{byte_format, half_format, word_format, raw_format, same_bytes, checked_format, Passes, IsWide, wide16, wide32}
+use Rattle.hprof_read.proofs.FieldFormats.{half_format, word_format, raw_format, same_bytes, checked_format}
 
 abbrev pub Triple : Type 0
 Triple = ℕ × (ℕ × ℕ)
@@ -123,12 +119,12 @@ either false = refl
 
 type_to : (code : ℕ) → IsType code → is_type code ≡ true
 type_to code h = elim h [
-    | inl e ↦ ap is_type e
-    | inr p ↦ rw (primitive_to code p) (either (nat_eq code 2))
-  ]
+  | inl e ↦ ap is_type e
+  | inr p ↦ rw (primitive_to code p) (either (nat_eq code 2))
+]
 
 type_small : (code : ℕ) → is_type code ≡ true → code < 256
-type_small code h = elim (type_from code h) [ | inl e ↦ omega arith | inr p ↦ omega arith ]
+type_small code h = elim (type_from code h) [ inl e ↦ omega arith | inr p ↦ omega arith ]
 
 pub primitive_format : IsFormat (checked is_primitive) (field 1) (λ c. is_primitive c ≡ true)
 primitive_format = checked_format is_primitive 4 refl primitive_small

@@ -1,23 +1,22 @@
 -- Each part of a segment is read exactly where its bytes stand.
-use Rattle.std.proofs.Common.{◌≡◌, ℕ, zero, suc, ◌+◌, ◌*◌, ◌^◌, ◌≤◌, ◌<◌, ◌⊎◌, inl, inr, Bool, true, false, cond, List, [], ◌∷◌, ◌++◌, length, Option, Some, None, Result, Ok, Err, refl, sym, ap, subst, ◌∙◌, append_assoc, arith, All}
+use Rattle.std.proofs.Common.{◌≡◌, ℕ, suc, ◌*◌, ◌<◌, ◌⊎◌, inl, inr, Bool, true, false, cond, List, [], ◌∷◌, ◌++◌, length, Option, Some, None, Ok, Err, refl, sym, ap, subst, ◌∙◌, arith}
 use Rattle.std.specs.Prelude.{nat_eq, ◌||◌}
-use Rattle.std.specs.Int.{w8, w16, w32, w64}
+use Rattle.std.specs.Int.{w32}
 use Rattle.std.specs.List.{flat_map, concat, AllByRecursion}
 use Rattle.std.proofs.lemmas.List.{append-nil}
-use Rattle.std.proofs.lemmas.List.Elements.{All-head, All-append}
+use Rattle.std.proofs.lemmas.List.Elements.{All-append}
 use Rattle.std.proofs.lemmas.Bool.{eqb-true}
 use Rattle.hprof_records.specs.declared.sub_record.SubRecord.{SubRecord}
 use Rattle.hprof_records.specs.declared.sub_record.SubRecord.TheVariants.{Root, HeapInfo, ClassDump, Instance, ObjectArray, PrimitiveArray, NoData}
 use Rattle.hprof_records.specs.Fields.{field}
 use Rattle.hprof_records.specs.Types.{value_bytes}
 use Rattle.hprof_records.specs.Parts.{word, constant_bytes, static_bytes, field_name_bytes, further_bytes, bytes_of_part}
-use Rattle.hprof_records.specs.Formed.{IsByte, IsHalf, IsWord, is_one_of, bare_tags, tags_with_one, tags_with_two, IsConstant, IsStatic, IsFieldName, IsPart}
-use Rattle.hprof_read.specs.declared.fields.Stop.{Stop}
+use Rattle.hprof_records.specs.Formed.{IsByte, IsWord, is_one_of, bare_tags, tags_with_one, tags_with_two, IsConstant, IsStatic, IsPart}
 use Rattle.hprof_read.specs.declared.fields.Stop.TheVariants.{Short, Refused}
 use Rattle.hprof_read.specs.declared.parts.Kind.{Kind}
 use Rattle.hprof_read.specs.declared.parts.Kind.TheVariants as kinds
-use Rattle.hprof_read.specs.Reading.{Reader, number, raw, checked, both, made, times, counted_bytes, triple, is_primitive, constant, static_field, field_name, constants, statics, field_names, kind_of, part_of_kind, part_behind, part_at, bare_root, root_with_one, root_with_two, heap_info, class_dump, instance, object_array, primitive_array, no_data}
-use Rattle.hprof_read.proofs.Formats.{AreBytes, AreBytes-right, GoesOn, StopsAt, IsFormat, IsMade, SoMany, both_format, both_text, BothFit, made_format, times_format}
+use Rattle.hprof_read.specs.Reading.{number, raw, checked, both, times, counted_bytes, triple, is_primitive, constant, static_field, field_name, constants, statics, field_names, kind_of, part_of_kind, part_behind, part_at, bare_root, root_with_one, root_with_two, heap_info, class_dump, instance, object_array, primitive_array, no_data}
+use Rattle.hprof_read.proofs.Formats.{AreBytes, AreBytes-right, GoesOn, StopsAt, IsFormat, IsMade, SoMany, both_format, made_format, times_format}
 use Rattle.hprof_read.proofs.FieldFormats.{word_format, raw_format, same_bytes, cell, field_octets}
 use Rattle.hprof_read.proofs.PartFormats.{Triple, triple_text, TripleFits, triple_format, list_text, ListFits, counted_text, CountedFits, counted_format, primitive_format, primitive_from, primitive_to, pair_text, PairFits, field_names_same, field_names_to, field_names_from, constants_format, statics_format, field_names_format}
 
@@ -207,8 +206,8 @@ alone_by tag false false false false false false false false false h i j k l m =
 alone : (tag : ℕ) (o : Option Kind) → kind_of tag ≡ o → IsAlone o tag
 alone tag o h =
     let told : IsAlone (kind_of tag) tag =
-        alone_by tag (is_one_of bare_tags tag) (is_one_of tags_with_one tag) (is_one_of tags_with_two tag) (nat_eq tag 0xfe) (nat_eq tag 0x20) (nat_eq tag 0x21) (nat_eq tag 0x22) (nat_eq tag 0x23) (nat_eq tag 0xc3)
-        (λ e. sym (eqb-true _ _ e)) (λ e. sym (eqb-true _ _ e)) (λ e. sym (eqb-true _ _ e)) (λ e. sym (eqb-true _ _ e)) (λ e. sym (eqb-true _ _ e)) (λ e. sym (eqb-true _ _ e)) in
+    alone_by tag (is_one_of bare_tags tag) (is_one_of tags_with_one tag) (is_one_of tags_with_two tag) (nat_eq tag 0xfe) (nat_eq tag 0x20) (nat_eq tag 0x21) (nat_eq tag 0x22) (nat_eq tag 0x23) (nat_eq tag 0xc3)
+    (λ e. sym (eqb-true _ _ e)) (λ e. sym (eqb-true _ _ e)) (λ e. sym (eqb-true _ _ e)) (λ e. sym (eqb-true _ _ e)) (λ e. sym (eqb-true _ _ e)) (λ e. sym (eqb-true _ _ e)) in
     subst (λ (k : Option Kind). IsAlone k tag) h told
 
 -- ---- bare
@@ -579,13 +578,22 @@ unfolding part_at
 tagged_bad tag bytes None h left fits e =
     let same : left ≡ suc (length bytes) = cc in
     record {
-      front = []; code = tag; after = bytes; whole = refl; place = same; before = before_tag;
+      front = [];
+      code = tag;
+      after = bytes;
+      whole = refl;
+      place = same;
+      before = before_tag;
       refused = λ rest. ap (λ (k : Option Kind). part_behind k tag rest) h;
     }
 tagged_bad tag bytes (Some k) h left fits e =
     let s = (kind_format k tag h).bad bytes left fits e in
     record {
-      front = tag ∷ s.front; code = s.code; after = s.after; whole = ap (λ (t : List ℕ). tag ∷ t) s.whole; place = s.place;
+      front = tag ∷ s.front;
+      code = s.code;
+      after = s.after;
+      whole = ap (λ (t : List ℕ). tag ∷ t) s.whole;
+      place = s.place;
       before = behind_tag tag s.front s.before;
       refused = λ rest. ap (λ (k : Option Kind). part_behind k tag (s.front ++ s.code ∷ rest)) h ∙ s.refused rest;
     }
@@ -602,5 +610,10 @@ part_octets p fit =
 
 pub part_format : IsFormat part_at bytes_of_part IsPart
 part_format = record {
-  again = part_again; takes = part_takes; some = (HeapInfo 0 0, some_part); octets = part_octets; short = part_short; bad = part_bad;
+  again = part_again;
+  takes = part_takes;
+  some = (HeapInfo 0 0, some_part);
+  octets = part_octets;
+  short = part_short;
+  bad = part_bad;
 }

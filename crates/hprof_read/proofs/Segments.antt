@@ -1,7 +1,6 @@
 -- Reading parts one after the other, up to the end of a segment or to the first fault.
-use Rattle.std.proofs.Common.{◌≡◌, ◌≢◌, ℕ, zero, suc, ◌+◌, ◌-◌, ◌≤◌, ◌<◌, Bool, true, false, cond, List, [], ◌∷◌, ◌++◌, length, get_or, Result, Ok, Err, refl, sym, ap, subst, ◌∙◌, append_assoc, arith, All}
+use Rattle.std.proofs.Common.{◌≡◌, ◌≢◌, ℕ, suc, ◌+◌, ◌-◌, ◌<◌, Bool, true, false, cond, List, [], ◌∷◌, ◌++◌, length, get_or, Ok, Err, refl, sym, ap, subst, ◌∙◌, append_assoc, arith, All}
 use Rattle.std.specs.Prelude.{nat_eq}
-use Rattle.std.specs.List.{flat_map}
 use Rattle.std.proofs.lemmas.List.{append-nil, length-append}
 use Rattle.std.proofs.lemmas.Bool.{eqb-true, eqb-false, eq-eqb}
 use Rattle.std.proofs.lemmas.List.Concat.{flat_map-append}
@@ -14,11 +13,10 @@ use Rattle.hprof_read.specs.declared.fields.Stop.{Stop}
 use Rattle.hprof_read.specs.declared.fields.Stop.TheVariants.{Short, Refused}
 use Rattle.hprof_read.specs.declared.fields.Halt.{Halt}
 use Rattle.hprof_read.specs.declared.fields.Halt.TheVariants as halts
-use Rattle.hprof_read.specs.declared.read_error.ReadError.{ReadError}
 use Rattle.hprof_read.specs.declared.read_error.ReadError.TheVariants as errors
 use Rattle.hprof_read.specs.Reading.{Fails, part_at, part_fault, IsWithin}
-use Rattle.hprof_read.specs.Fault.{NoPart, BeginsPart, BeginsNoPart, PartFault, BodyFault}
-use Rattle.hprof_read.proofs.Formats.{AreBytes, AreBytes-right, GoesOn, StopsAt}
+use Rattle.hprof_read.specs.Fault.{NoPart, BeginsPart, BeginsNoPart, PartFault}
+use Rattle.hprof_read.proofs.Formats.{AreBytes, AreBytes-right}
 use Rattle.hprof_read.proofs.PartsByTag.{part_format, part_text, part_tag, part_body}
 
 -- what the code knows of bytes
@@ -37,7 +35,7 @@ part_read body parts rest p after fits whole formed e =
     let fits' : AreBytes rest = AreBytes-right (bytes_of_parts parts) rest (subst AreBytes whole fits) in
     let one = part_format.takes rest p after fits' e in
     let joined : bytes_of_parts (parts ++ p ∷ []) ≡ bytes_of_parts parts ++ bytes_of_part p =
-        flat_map-append bytes_of_part parts (p ∷ []) ∙ ap (λ (t : List ℕ). bytes_of_parts parts ++ t) (append-nil (bytes_of_part p)) in
+    flat_map-append bytes_of_part parts (p ∷ []) ∙ ap (λ (t : List ℕ). bytes_of_parts parts ++ t) (append-nil (bytes_of_part p)) in
     let here : rest ≡ field 1 (part_tag p) ++ (part_body p ++ after) = one.0 ∙ ap (λ (t : List ℕ). t ++ after) (part_text p) in
     let long : length rest ≡ suc (length (part_body p ++ after)) = ap length here in
     record {

@@ -2,15 +2,11 @@
 #![tactic(auto)]
 
 mod class_parts;
-mod counts;
 mod dump;
 mod fields;
-mod lines;
 mod parts;
-mod put;
 mod read_error;
 mod records;
 
 pub use dump::{Dump, TopList, read_dump};
-pub use lines::write_listing;
 pub use read_error::ReadError;

@@ -3,7 +3,9 @@ ghost use Rattle.std.specs.Prelude.{◌≡◌};
 ghost use Rattle.hprof_read.specs.Reading.{Gives, kind_of, part_at, part_of_kind, bare_root, root_with_one, root_with_two, heap_info, class_dump, instance, object_array, primitive_array, no_data};
 
 use crate::class_parts::{class_constants, class_fields, class_statics};
-use crate::fields::{Halt, SHORT, Stop, bytes_of, counted, primitive_type, three_words, word, words};
+use crate::fields::{
+    Halt, SHORT, Stop, bytes_of, counted, primitive_type, three_words, word, words,
+};
 use hprof_records::{Bytes, SubRecord};
 use std::alloc::Global;
 

@@ -177,11 +177,7 @@ fn read_body(
 }
 
 /// The record at the front, which stands at a place, and the bytes after it.
-pub fn read_record(
-    alloc: Global,
-    bytes: &[u8],
-    at: u64,
-) -> Result<(TopRecord, &[u8]), ReadError>
+pub fn read_record(alloc: Global, bytes: &[u8], at: u64) -> Result<(TopRecord, &[u8]), ReadError>
     requires { at + length bytes.now < 2 ^ 64 }
     ensures found { IfOk result (λ x. IsRecord x.0 × (bytes.now ≡ bytes_of_record x.0 ++ x.1.now)) }
     ensures fault { IfErr result (λ e. e ≢ ReadError.OutOfMemory → NoRecord bytes.now × RecordFault e bytes.now at) }

@@ -1,6 +1,5 @@
-use Rattle.std.proofs.Common.{◌≡◌, ◌++◌, ◌∷◌, []}
 use Rattle.std.proofs.lemmas.Result.{err_from_is_err_and}
-use Rattle.hprof_read.specs.Reading.{times, constant, static_field, field_name}
+use Rattle.hprof_read.specs.Reading.{times, constant}
 use Rattle.hprof_read.proofs.Loop.{goes_on, ends, is_done}
 use Rattle.hprof_read.proofs.class_parts.so_many_constants.Goals as goal
 

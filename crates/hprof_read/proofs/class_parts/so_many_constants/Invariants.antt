@@ -1,5 +1,5 @@
 use Rattle.std.proofs.Common.{◌≡◌, ◌-◌}
-use Rattle.hprof_read.specs.Reading.{times, constant, static_field, field_name}
+use Rattle.hprof_read.specs.Reading.{times, constant}
 use Rattle.hprof_read.proofs.Loop.{with_front}
 use Rattle.hprof_read.proofs.class_parts.so_many_constants.Given as goal
 

@@ -1,10 +1,9 @@
-use Rattle.std.proofs.Common.{◌≡◌, ◌≢◌, ◌+◌, ◌-◌, ◌^◌, ◌≤◌, ◌<◌, List, ℕ, length, take, drop, refl, sym, ap, arith, ◌∙◌, [], ◌∷◌, ◌++◌}
+use Rattle.std.proofs.Common.{◌≡◌, ◌-◌, List, ℕ, length, take, drop, refl, sym, ap, arith, ◌∙◌, ◌++◌}
 use Rattle.std.proofs.lemmas.List.{take_rest}
 use Rattle.hprof_records.specs.Fields.{field}
 use Rattle.hprof_records.specs.Parts.{word}
-use Rattle.hprof_records.specs.Records.{header_bytes}
 use Rattle.hprof_read.specs.Fault.{magic}
-use Rattle.hprof_read.proofs.Header.{begins, begins_not, front_number, other_word}
+use Rattle.hprof_read.proofs.Header.{begins, front_number, other_word}
 use Rattle.hprof_read.proofs.dump.read_header.Goals as goal
 
 pub returns-then-size-ne4-clause-fault : goal.returns-then-size-ne4-clause-fault

@@ -7,7 +7,7 @@ abbrev pub invariant-loop-rest : goal.invariant-loop-rest
 invariant-loop-rest l = record {
   whole : l.bytes ≡ bytes_of_records l.top ++ l.rest;
   formed : AreRecords l.top;
-  place : l.end ≡ l.at + length l.bytes
+  place : l.end ≡ l.at + length l.bytes;
 }
 
 abbrev pub decreases-loop-rest : goal.decreases-loop-rest

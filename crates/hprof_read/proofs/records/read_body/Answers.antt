@@ -1,4 +1,4 @@
-use Rattle.std.proofs.Common.{◌≡◌, ◌≢◌, ◌+◌, ◌<◌, ℕ, List, refl, sym, subst, arith}
+use Rattle.std.proofs.Common.{refl, sym, subst, arith}
 use Rattle.hprof_read.specs.Reading.{text_of, load_of, trace_of}
 use Rattle.hprof_read.proofs.Segments.{all_bytes}
 use Rattle.hprof_read.proofs.Bodies.{text_takes, load_takes, trace_takes, text_lacks, load_lacks, trace_lacks, kind_found, kind_fault, none_of}

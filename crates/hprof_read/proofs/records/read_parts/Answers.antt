@@ -1,4 +1,4 @@
-use Rattle.std.proofs.Common.{◌≡◌, ◌≢◌, ◌+◌, ◌<◌, length, refl, sym, ap, subst, arith, [], ◌∷◌, ◌++◌}
+use Rattle.std.proofs.Common.{◌≡◌, ◌≢◌, ◌+◌, length, refl, sym, ap, subst, arith, [], ◌∷◌, ◌++◌}
 use Rattle.hprof_records.specs.declared.sub_record.SubRecord.{SubRecord}
 use Rattle.std.proofs.Common.{List}
 use Rattle.hprof_read.specs.declared.read_error.ReadError.{ReadError}
@@ -18,9 +18,9 @@ loop-rest-smaller c =
 pub loop-rest-preserved : goal.loop-rest-preserved
 loop-rest-preserved c =
     let one : OneMore c.args.body.now (c.loop-rest.parts ++ c.in-Ok.part ∷ []) c.loop-rest.rest.now c.in-Ok.after.now =
-        part_read c.args.body.now c.loop-rest.parts c.loop-rest.rest.now c.in-Ok.part c.in-Ok.after.now (all_bytes c.args.body.now (λ i. omega (arith, c.type_inv.body i))) c.loop-rest.invariant.whole c.loop-rest.invariant.formed c.in-Ok.ensures in
+    part_read c.args.body.now c.loop-rest.parts c.loop-rest.rest.now c.in-Ok.part c.in-Ok.after.now (all_bytes c.args.body.now (λ i. omega (arith, c.type_inv.body i))) c.loop-rest.invariant.whole c.loop-rest.invariant.formed c.in-Ok.ensures in
     let more : OneMore c.args.body.now c.push.new.self c.loop-rest.rest.now c.in-Ok.after.now =
-        subst (λ (ps : List SubRecord). OneMore c.args.body.now ps c.loop-rest.rest.now c.in-Ok.after.now) (sym c.in_ok-push-in-Ok.ensures.pushed) one in
+    subst (λ (ps : List SubRecord). OneMore c.args.body.now ps c.loop-rest.rest.now c.in-Ok.after.now) (sym c.in_ok-push-in-Ok.ensures.pushed) one in
     record { whole = more.whole; formed = more.formed; place = refl }
 
 pub fault_of-requires-clause-within : goal.fault_of-requires-clause-within
@@ -38,6 +38,6 @@ returns-in-Err-clause-fault c =
     let end = c.args.at + length c.args.body.now in
     let sums : q + length rest ≡ end = omega (arith, ap length whole, length-append (bytes_of_parts parts) rest) in
     let told : part_fault c.in-Err.halt (length rest) end ≢ errors.OutOfMemory → BodyFault (part_fault c.in-Err.halt (length rest) end) c.args.body.now c.args.at =
-        λ other. let f = fault_of_part c.in-Err.halt rest q end fits c.in-Err.ensures sums other in
-            (parts, rest, (c.loop-rest.invariant.formed, whole, some_bytes rest c.is_empty.result c.is_empty.ensures c.loop-rest-test.true, f.0, f.1)) in
+    λ other. let f = fault_of_part c.in-Err.halt rest q end fits c.in-Err.ensures sums other in
+    (parts, rest, (c.loop-rest.invariant.formed, whole, some_bytes rest c.is_empty.result c.is_empty.ensures c.loop-rest-test.true, f.0, f.1)) in
     subst (λ (e : ReadError). e ≢ errors.OutOfMemory → BodyFault e c.args.body.now c.args.at) (sym c.fault_of.ensures) told

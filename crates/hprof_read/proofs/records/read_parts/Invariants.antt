@@ -7,7 +7,7 @@ abbrev pub invariant-loop-rest : goal.invariant-loop-rest
 invariant-loop-rest l = record {
   whole : l.body ≡ bytes_of_parts l.parts ++ l.rest;
   formed : All IsPart l.parts;
-  place : l.end ≡ l.at + length l.body
+  place : l.end ≡ l.at + length l.body;
 }
 
 abbrev pub decreases-loop-rest : goal.decreases-loop-rest
