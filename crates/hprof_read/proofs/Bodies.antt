@@ -7,6 +7,7 @@ use Rattle.std.proofs.lemmas.List.{append-nil, length-append}
 use Rattle.std.proofs.lemmas.List.Elements.{All-nil, All-append, All-push}
 use Rattle.std.proofs.lemmas.List.Concat.{flat_map-append}
 use Rattle.std.proofs.lemmas.Bool.{ne_eqb}
+use Rattle.hprof_records.specs.declared.sub_record.SubRecord.{SubRecord}
 use Rattle.hprof_records.specs.declared.top_record.TopRecord.{TopRecord}
 use Rattle.hprof_records.specs.declared.top_record.TopRecord.TheVariants.{Text, LoadClass, Trace, Segment, Other}
 use Rattle.hprof_records.specs.Fields.{field}
@@ -360,3 +361,80 @@ cut_fault bytes h s o fits is failed =
     let e : frame bytes ≡ Err s = subst (λ (k : Halt). Fails k (frame bytes)) is failed in
     let cut = cut_record bytes s fits e in
     (cut.0, inl (refl, cut.1))
+
+-- ---- a tag, a time and a body are those of one record
+
+-- a record's kind, and what a tag tells of it
+abbrev kind_by : Bool → Bool → ℕ → ℕ
+kind_by true is_read tag = 12
+kind_by false true tag = tag
+kind_by false false tag = 99
+
+abbrev kind_by_tag : ℕ → ℕ
+kind_by_tag tag = kind_by (is_one_of segment_tags tag) (is_one_of read_tags tag) tag
+
+abbrev record_kind : TopRecord → ℕ
+record_kind (Text t id bytes) = 1
+record_kind (LoadClass t serial class stack name rest) = 2
+record_kind (Trace t serial thread frames rest) = 5
+record_kind (Segment t g size parts) = 12
+record_kind (Other t g bytes) = 99
+
+other_kind : (tag : ℕ) (s : Bool) → is_one_of segment_tags tag ≡ s → is_one_of read_tags tag ≡ false → kind_by s (is_one_of read_tags tag) tag ≡ 99
+other_kind tag true s o =
+    let yes : is_one_of read_tags tag ≡ true = listed (λ t. is_one_of read_tags t ≡ true) segment_tags tag (refl, (refl, tt)) s in
+    let both = sym yes ∙ o in absurd cc
+other_kind tag false s o = ap (λ (b : Bool). kind_by false b tag) o
+
+kind_told : (r : TopRecord) → HasFields r → kind_by_tag (tag_of r) ≡ record_kind r
+kind_told (Text t id bytes) fit = refl
+kind_told (LoadClass t serial class stack name rest) fit = refl
+kind_told (Trace t serial thread frames rest) fit = refl
+kind_told (Segment t g size parts) fit = ap (λ (b : Bool). kind_by b (is_one_of read_tags g) g) fit.0
+kind_told (Other t g bytes) fit = other_kind g (is_one_of segment_tags g) refl fit.1
+
+same_rest : (xs ys : List ℕ) → xs ++ [] ≡ ys ++ [] → xs ≡ ys
+same_rest xs ys e = sym (append-nil xs) ∙ e ∙ append-nil ys
+
+pub same_fields : (r s : TopRecord) → HasFields r → HasFields s → tag_of r ≡ tag_of s → time_of r ≡ time_of s → body_of r ≡ body_of s → r ≡ s
+same_fields (Text t id bytes) (Text u id' bytes') f g tag time body =
+    let got : ℕ × List ℕ = (id, bytes ++ []) in
+    let want : ℕ × List ℕ = (id', bytes' ++ []) in
+    let same : got ≡ want = ok_is got want (sym (word_format.again id (bytes ++ []) f.0) ∙ ap (number w32) body ∙ word_format.again id' (bytes' ++ []) g.0) in
+    let ids = ap (λ (q : ℕ × List ℕ). q.0) same in
+    let rests = same_rest bytes bytes' (ap (λ (q : ℕ × List ℕ). q.1) same) in
+    cc
+same_fields (LoadClass t serial class stack name rest) (LoadClass u serial' class' stack' name' rest') f g tag time body =
+    let x : Triple × ℕ = ((serial, (class, stack)), name) in
+    let y : Triple × ℕ = ((serial', (class', stack')), name') in
+    let got : (Triple × ℕ) × List ℕ = (x, rest ++ []) in
+    let want : (Triple × ℕ) × List ℕ = (y, rest' ++ []) in
+    let same : got ≡ want = ok_is got want (sym (load_format.again x (rest ++ []) ((f.0, (f.1, f.2)), f.3)) ∙ ap load_head body ∙ load_format.again y (rest' ++ []) ((g.0, (g.1, g.2)), g.3)) in
+    let serials = ap (λ (q : (Triple × ℕ) × List ℕ). q.0.0.0) same in
+    let classes = ap (λ (q : (Triple × ℕ) × List ℕ). q.0.0.1.0) same in
+    let stacks = ap (λ (q : (Triple × ℕ) × List ℕ). q.0.0.1.1) same in
+    let names = ap (λ (q : (Triple × ℕ) × List ℕ). q.0.1) same in
+    let rests = same_rest rest rest' (ap (λ (q : (Triple × ℕ) × List ℕ). q.1) same) in
+    cc
+same_fields (Trace t serial thread frames rest) (Trace u serial' thread' frames' rest') f g tag time body =
+    let x : (ℕ × ℕ) × List ℕ = ((serial, thread), frames) in
+    let y : (ℕ × ℕ) × List ℕ = ((serial', thread'), frames') in
+    let got : ((ℕ × ℕ) × List ℕ) × List ℕ = (x, rest ++ []) in
+    let want : ((ℕ × ℕ) × List ℕ) × List ℕ = (y, rest' ++ []) in
+    let here : trace_text x ++ (rest ++ []) ≡ body_of (Trace t serial thread frames rest) = append_assoc (word serial ++ word thread) (long_text (number w32) word IsWord frames) (rest ++ []) in
+    let there : trace_text y ++ (rest' ++ []) ≡ body_of (Trace u serial' thread' frames' rest') = append_assoc (word serial' ++ word thread') (long_text (number w32) word IsWord frames') (rest' ++ []) in
+    let same : got ≡ want = ok_is got want (sym (trace_format.again x (rest ++ []) ((f.0, f.1), (f.2, f.3))) ∙ ap trace_head (here ∙ body ∙ sym there) ∙ trace_format.again y (rest' ++ []) ((g.0, g.1), (g.2, g.3))) in
+    let serials = ap (λ (q : ((ℕ × ℕ) × List ℕ) × List ℕ). q.0.0.0) same in
+    let threads = ap (λ (q : ((ℕ × ℕ) × List ℕ) × List ℕ). q.0.0.1) same in
+    let lists = ap (λ (q : ((ℕ × ℕ) × List ℕ) × List ℕ). q.0.1) same in
+    let rests = same_rest rest rest' (ap (λ (q : ((ℕ × ℕ) × List ℕ) × List ℕ). q.1) same) in
+    cc
+same_fields (Segment t tag size parts) (Segment u tag' size' parts') f g tags time body =
+    let none : NoPart [] = λ p more formed e. part_nonempty p more e in
+    let same : parts ≡ parts' = (parts_end parts parts' [] [] f.2 g.2 (append-nil (bytes_of_parts parts) ∙ body ∙ sym (append-nil (bytes_of_parts parts'))) none none).0 in
+    let sizes : size ≡ size' = f.1 ∙ ap (λ (ps : List SubRecord). length (bytes_of_parts ps)) same ∙ sym g.1 in
+    cc
+same_fields (Other t tag bytes) (Other u tag' bytes') f g tags time body = cc
+same_fields r s f g tag time body =
+    let e : record_kind r ≡ record_kind s = sym (kind_told r f) ∙ ap kind_by_tag tag ∙ kind_told s g in
+    absurd (omega arith)

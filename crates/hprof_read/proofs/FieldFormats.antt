@@ -1,10 +1,10 @@
 -- The formats of single fields: numbers, bytes as they stand, bytes that pass a test, and counts before values.
 use Rattle.std.proofs.Common.{◌≡◌, ℕ, zero, suc, ◌-◌, ◌^◌, ◌≤◌, ◌<◌, Bool, true, false, cond, ltb, List, [], ◌∷◌, ◌++◌, length, get_or, take, drop, replicate, Ok, Err, refl, sym, ap, subst, ◌∙◌, arith, inl, inr}
-use Rattle.std.specs.Int.{Width, byte_at, w8, w16, w32, byte_len, from_be_bytes, to_be_bytes}
+use Rattle.std.specs.Int.{Width, byte_at, w8, w16, w32, byte_len, from_be_bytes, to_be_bytes, w64}
 use Rattle.std.proofs.lemmas.Bool.{cases_lt, ltb-false, ltb-true, le-ltb}
 use Rattle.std.proofs.lemmas.List.{length-replicate, take_at, drop_at, take-append-drop, length-append, length-take, get_or_past}
 use Rattle.std.proofs.lemmas.List.Elements.{All-nil, All-cons, All-append, All-replicate, All-take, All-get_or, All-head}
-use Rattle.std.proofs.lemmas.Nat.{be_bytes_2, be_bytes_4, from_be_bytes-to_be_bytes_2, from_be_bytes-to_be_bytes_4}
+use Rattle.std.proofs.lemmas.Nat.{be_bytes_2, be_bytes_4, from_be_bytes-to_be_bytes_2, from_be_bytes-to_be_bytes_4, be_bytes_8, from_be_bytes-to_be_bytes_8}
 use Rattle.hprof_records.specs.Fields.{field}
 use Rattle.hprof_records.specs.Formed.{IsByte}
 use Rattle.hprof_read.specs.declared.fields.Stop.{Stop}
@@ -82,6 +82,15 @@ wide32 = record {
   some = omega arith;
 }
 
+pub wide64 : IsWide w64 (2 ^ 64)
+wide64 = record {
+  len = λ n. refl;
+  back = λ bytes len h. be_bytes_8 bytes _ len (fits_at bytes h) refl;
+  again = λ n lt. from_be_bytes-to_be_bytes_8 n lt;
+  below = λ bytes h. omega (arith, fits_at bytes h 0, fits_at bytes h 1, fits_at bytes h 2, fits_at bytes h 3, fits_at bytes h 4, fits_at bytes h 5, fits_at bytes h 6, fits_at bytes h 7);
+  some = omega arith;
+}
+
 byte_small : (k n : ℕ) → byte_at k n < 256
 byte_small zero n = omega arith
 byte_small (suc k) n = omega arith
@@ -139,6 +148,9 @@ module _ (w : Width) (limit : ℕ) (wide : IsWide w limit) where
 
 pub byte_format : IsFormat (number w8) (field 1) (λ n. n < 2 ^ 8)
 byte_format = number_format w8 (2 ^ 8) wide8
+
+pub long_number_format : IsFormat (number w64) (field 8) (λ n. n < 2 ^ 64)
+long_number_format = number_format w64 (2 ^ 64) wide64
 
 pub half_format : IsFormat (number w16) (field 2) (λ n. n < 2 ^ 16)
 half_format = number_format w16 (2 ^ 16) wide16

@@ -7,3 +7,4 @@ pub mod Segments
 pub mod Header
 pub mod Unique
 pub mod Bodies
+pub mod LawLemmas

@@ -4,9 +4,11 @@
 mod class_parts;
 mod dump;
 mod fields;
+mod laws;
 mod parts;
 mod read_error;
 mod records;
 
 pub use dump::{Dump, TopList, read_dump};
+pub use laws::{longest_fronts, one_list};
 pub use read_error::ReadError;
