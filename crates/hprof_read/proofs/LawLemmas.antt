@@ -1,7 +1,7 @@
 -- A text is the dump of at most one list of records.
-use Rattle.std.proofs.Common.{◌≡◌, ℕ, ◌^◌, ◌<◌, ◌≤◌, ◌+◌, List, [], ◌∷◌, ◌++◌, length, Result, Ok, refl, sym, ap, subst, ◌∙◌, append_assoc, arith, All}
+use Rattle.std.proofs.Common.{suc, take, inl, inr, ◌≡◌, ℕ, ◌^◌, ◌<◌, ◌≤◌, ◌+◌, List, [], ◌∷◌, ◌++◌, length, Result, Ok, refl, sym, ap, subst, ◌∙◌, append_assoc, arith, All}
 use Rattle.std.specs.Int.{w64}
-use Rattle.std.proofs.lemmas.List.{append-nil, append_cancel_left, length-append}
+use Rattle.std.proofs.lemmas.List.{append-nil, append_cancel_left, length-append, take_at}
 use Rattle.hprof_records.specs.declared.sub_record.SubRecord.{SubRecord}
 use Rattle.hprof_records.specs.declared.top_record.TopRecord.{TopRecord}
 use Rattle.hprof_records.specs.declared.top_record.TopRecord.TheVariants.{Text, LoadClass, Trace, Segment, Other}
@@ -10,7 +10,9 @@ use Rattle.hprof_records.specs.Parts.{word, bytes_of_parts}
 use Rattle.hprof_records.specs.Records.{tag_of, time_of, body_of, bytes_of_record, bytes_of_records, header_bytes, dump_bytes}
 use Rattle.hprof_records.specs.Dump.{HasFields, IsRecord, AreRecords}
 use Rattle.hprof_read.specs.Reading.{frame, number}
-use Rattle.hprof_read.specs.Fault.{magic, NoRecord}
+use Rattle.hprof_read.specs.Fault.{magic, NoRecord, HeaderFault, IsFirstFault}
+use Rattle.hprof_read.specs.declared.read_error.ReadError.{ReadError}
+use Rattle.hprof_read.specs.declared.read_error.ReadError.TheVariants as errors
 use Rattle.hprof_read.proofs.Formats.{ok_is}
 use Rattle.hprof_read.proofs.FieldFormats.{long_number_format}
 use Rattle.hprof_read.proofs.Unique.{HasOneReading, one_reading, not_past, part_nonempty, parts_end}
@@ -59,3 +61,38 @@ longest_dump t u rs ss rest more f g fr gs none e =
     let le = records_end ss rs more rest gs fr h.1 none in
     let same : length (header_bytes u) ≡ length (header_bytes t) = refl in
     omega (arith, length-append (header_bytes u) (bytes_of_records ss), length-append (header_bytes t) (bytes_of_records rs))
+
+sizes_apart : (size rest more : List ℕ) → length size ≡ 4 → word 4 ++ more ≡ size ++ rest → size ≡ word 4
+sizes_apart size rest more len e = sym (take_at size rest 4 len) ∙ ap (take 4) (sym e)
+
+header_fault_not : (e : ReadError) (time : ℕ) (body : List ℕ) → HeaderFault e (header_bytes time ++ body) → ⊥
+header_fault_not (errors.Magic offset) time body f = f.1 (word 4 ++ (field 8 time ++ body)) refl
+header_fault_not (errors.IdSize offset) time body f =
+    f.1.2.2 (sizes_apart f.1.0 f.1.1 (field 8 time ++ body) f.1.2.1 (append_cancel_left magic (word 4 ++ (field 8 time ++ body)) (f.1.0 ++ f.1.1) f.1.2.0))
+header_fault_not (errors.CutShort offset) time body f =
+    elim f [
+      | inl h ↦
+        let rest : word 4 ++ (field 8 time ++ body) ≡ h.1.0 = append_cancel_left magic (word 4 ++ (field 8 time ++ body)) h.1.0 h.1.1.0 in
+        let long : suc (suc (suc (suc (length (field 8 time ++ body))))) ≡ length h.1.0 = ap length rest in
+        absurd (omega (arith, h.1.1.1))
+      | inr h ↦
+        let rest : field 8 time ++ body ≡ h.1.0 = append_cancel_left (magic ++ word 4) (field 8 time ++ body) h.1.0 h.1.1.0 in
+        let long : suc (suc (suc (suc (suc (suc (suc (suc (length body)))))))) ≡ length h.1.0 = ap length rest in
+        absurd (omega (arith, h.1.1.1))
+    ]
+header_fault_not (errors.UnknownTag offset) time body f = f
+header_fault_not (errors.PastEnd offset) time body f = f
+header_fault_not (errors.BadType offset) time body f = f
+header_fault_not errors.OutOfMemory time body f = f
+
+-- a dump has no fault
+pub no_fault : (e : ReadError) (time : ℕ) (records : List TopRecord) → time < 2 ^ 64 → AreRecords records → IsFirstFault e (dump_bytes time records) → ⊥
+no_fault e time records small formed f =
+    elim f [
+      | inl h ↦ header_fault_not e time (bytes_of_records records) h
+      | inr h ↦
+        let behind = one_header time h.0 (bytes_of_records records) h.1 small h.2.0 h.2.1 in
+        let g = h.2.2 in
+        let same = one_list_of_records records g.0 [] g.1 formed g.2.0 (append-nil (bytes_of_records records) ∙ behind.1 ∙ g.2.1) no_record_at_end g.2.3 in
+        g.2.2 (sym same.1)
+    ]
