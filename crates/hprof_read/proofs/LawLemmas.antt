@@ -1,21 +1,19 @@
 -- A text is the dump of at most one list of records.
-use Rattle.std.proofs.Common.{suc, take, inl, inr, ◌≡◌, ℕ, ◌^◌, ◌<◌, ◌≤◌, ◌+◌, List, [], ◌∷◌, ◌++◌, length, Result, Ok, refl, sym, ap, subst, ◌∙◌, append_assoc, arith, All}
+use Rattle.std.proofs.Common.{suc, take, inl, inr, ◌≡◌, ℕ, ◌^◌, ◌<◌, ◌≤◌, List, [], ◌++◌, length, refl, sym, ap, ◌∙◌, append_assoc, arith}
 use Rattle.std.specs.Int.{w64}
 use Rattle.std.proofs.lemmas.List.{append-nil, append_cancel_left, length-append, take_at}
-use Rattle.hprof_records.specs.declared.sub_record.SubRecord.{SubRecord}
 use Rattle.hprof_records.specs.declared.top_record.TopRecord.{TopRecord}
-use Rattle.hprof_records.specs.declared.top_record.TopRecord.TheVariants.{Text, LoadClass, Trace, Segment, Other}
 use Rattle.hprof_records.specs.Fields.{field}
-use Rattle.hprof_records.specs.Parts.{word, bytes_of_parts}
+use Rattle.hprof_records.specs.Parts.{word}
 use Rattle.hprof_records.specs.Records.{tag_of, time_of, body_of, bytes_of_record, bytes_of_records, header_bytes, dump_bytes}
-use Rattle.hprof_records.specs.Dump.{HasFields, IsRecord, AreRecords}
+use Rattle.hprof_records.specs.Dump.{IsRecord, AreRecords}
 use Rattle.hprof_read.specs.Reading.{frame, number}
 use Rattle.hprof_read.specs.Fault.{magic, NoRecord, HeaderFault, IsFirstFault}
 use Rattle.hprof_read.specs.declared.read_error.ReadError.{ReadError}
 use Rattle.hprof_read.specs.declared.read_error.ReadError.TheVariants as errors
 use Rattle.hprof_read.proofs.Formats.{ok_is}
 use Rattle.hprof_read.proofs.FieldFormats.{long_number_format}
-use Rattle.hprof_read.proofs.Unique.{HasOneReading, one_reading, not_past, part_nonempty, parts_end}
+use Rattle.hprof_read.proofs.Unique.{HasOneReading, one_reading, not_past}
 use Rattle.hprof_read.proofs.Bodies.{record_again, same_fields}
 
 abbrev FrameParts : Type 0
@@ -72,13 +70,13 @@ header_fault_not (errors.IdSize offset) time body f =
 header_fault_not (errors.CutShort offset) time body f =
     elim f [
       | inl h ↦
-        let rest : word 4 ++ (field 8 time ++ body) ≡ h.1.0 = append_cancel_left magic (word 4 ++ (field 8 time ++ body)) h.1.0 h.1.1.0 in
-        let long : suc (suc (suc (suc (length (field 8 time ++ body))))) ≡ length h.1.0 = ap length rest in
-        absurd (omega (arith, h.1.1.1))
+          let rest : word 4 ++ (field 8 time ++ body) ≡ h.1.0 = append_cancel_left magic (word 4 ++ (field 8 time ++ body)) h.1.0 h.1.1.0 in
+          let long : suc (suc (suc (suc (length (field 8 time ++ body))))) ≡ length h.1.0 = ap length rest in
+          absurd (omega (arith, h.1.1.1))
       | inr h ↦
-        let rest : field 8 time ++ body ≡ h.1.0 = append_cancel_left (magic ++ word 4) (field 8 time ++ body) h.1.0 h.1.1.0 in
-        let long : suc (suc (suc (suc (suc (suc (suc (suc (length body)))))))) ≡ length h.1.0 = ap length rest in
-        absurd (omega (arith, h.1.1.1))
+          let rest : field 8 time ++ body ≡ h.1.0 = append_cancel_left (magic ++ word 4) (field 8 time ++ body) h.1.0 h.1.1.0 in
+          let long : suc (suc (suc (suc (suc (suc (suc (suc (length body)))))))) ≡ length h.1.0 = ap length rest in
+          absurd (omega (arith, h.1.1.1))
     ]
 header_fault_not (errors.UnknownTag offset) time body f = f
 header_fault_not (errors.PastEnd offset) time body f = f
@@ -91,8 +89,8 @@ no_fault e time records small formed f =
     elim f [
       | inl h ↦ header_fault_not e time (bytes_of_records records) h
       | inr h ↦
-        let behind = one_header time h.0 (bytes_of_records records) h.1 small h.2.0 h.2.1 in
-        let g = h.2.2 in
-        let same = one_list_of_records records g.0 [] g.1 formed g.2.0 (append-nil (bytes_of_records records) ∙ behind.1 ∙ g.2.1) no_record_at_end g.2.3 in
-        g.2.2 (sym same.1)
+          let behind = one_header time h.0 (bytes_of_records records) h.1 small h.2.0 h.2.1 in
+          let g = h.2.2 in
+          let same = one_list_of_records records g.0 [] g.1 formed g.2.0 (append-nil (bytes_of_records records) ∙ behind.1 ∙ g.2.1) no_record_at_end g.2.3 in
+          g.2.2 (sym same.1)
     ]
