@@ -43,7 +43,11 @@ fn fault_at(len: usize) -> Option<ReadError> {
 fn fronts_of_a_dump(rt: HostRuntime) {
     for len in 0..=BUILT_IN.len() {
         if let Some(front) = BUILT_IN.get(..len) {
-            assert_eq!(rt; fault_of(read_dump(rt.alloc(), front)), fault_at(len), "{len} bytes");
+            assert_eq!(rt;
+                fault_of(read_dump(rt.alloc(), front)),
+                fault_at(len),
+                "{len} bytes"
+            );
         }
     }
 }
@@ -59,13 +63,20 @@ fn bytes_that_are_no_dump(rt: HostRuntime) -> Result<(), Fail> {
     ] {
         let mut bytes = SMALL;
         bytes[at] = byte;
-        assert_eq!(rt; fault_of(read_dump(rt.alloc(), &bytes)), Some(fault), "{at} {byte}");
+        assert_eq!(rt;
+            fault_of(read_dump(rt.alloc(), &bytes)),
+            Some(fault),
+            "{at} {byte}"
+        );
     }
     let mut bytes = SMALL;
     bytes[55] = 0x23;
     bytes[64..68].copy_from_slice(&[0xff; 4]);
     bytes[68] = 0x0b;
-    assert_eq!(rt; fault_of(read_dump(rt.alloc(), &bytes)), Some(ReadError::PastEnd { offset: 55 }));
+    assert_eq!(rt;
+        fault_of(read_dump(rt.alloc(), &bytes)),
+        Some(ReadError::PastEnd { offset: 55 })
+    );
     for (record, fault) in [
         (
             [0x01, 0, 0, 0, 0, 0, 0, 0, 3, 0, 0, 0].as_slice(),
@@ -91,12 +102,27 @@ fn records_of_a_dump(rt: HostRuntime) -> Result<(), Fail> {
     assert_eq!(rt; records.len(), 2);
     assert!(rt; matches!(&records[0], TopRecord::Other { tag: 0x0e, .. }));
     match &records[1] {
-        TopRecord::Segment { tag, length, parts, .. } => {
+        TopRecord::Segment {
+            tag,
+            length,
+            parts,
+            ..
+        } => {
             assert_eq!(rt; *tag, 0x1c);
             assert_eq!(rt; *length, 14);
             let parts = parts.as_slice();
             assert_eq!(rt; parts.len(), 1);
-            assert!(rt; matches!(&parts[0], SubRecord::NoData { id: 0x8000_0000, stack: 0, count: 12_288, code: 8 }));
+            assert!(rt;
+                matches!(
+                    &parts[0],
+                    SubRecord::NoData {
+                        id: 0x8000_0000,
+                        stack: 0,
+                        count: 12_288,
+                        code: 8
+                    }
+                )
+            );
         }
         _ => assert!(rt; false),
     }
