@@ -103,7 +103,7 @@ trace_takes time body r fits e =
 -- ---- where no fields give a body
 
 -- a record that isn't of these three kinds has no tag of theirs
-segment_not : (tag : ℕ) → is_one_of segment_tags tag ≡ true → is_one_of field_tags tag ≡ true → ⊥
+pub segment_not : (tag : ℕ) → is_one_of segment_tags tag ≡ true → is_one_of field_tags tag ≡ true → ⊥
 segment_not tag s f =
     let no : is_one_of field_tags tag ≡ false = listed (λ t. is_one_of field_tags t ≡ false) segment_tags tag (refl, (refl, tt)) s in
     let both = sym f ∙ no in absurd cc

@@ -25,3 +25,8 @@ pub fn longest_fronts()
 pub fn no_fault_in_dumps()
     ensures { (e : ReadError) (time : ℕ) (records : List TopRecord) → time < 2 ^ 64 → AreRecords records → IsFirstFault e (dump_bytes time records) → ⊥ }
 {}
+
+/// A text has at most one first fault.
+pub fn first_faults()
+    ensures { (e f : ReadError) (text : List ℕ) → IsFirstFault e text → IsFirstFault f text → e ≡ f }
+{}
