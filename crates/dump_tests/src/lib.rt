@@ -1,0 +1,7 @@
+//! Tests of `hprof_read`: the front of a dump at each length, bytes that are no dump, and a dump's records.
+#![tactic(auto)]
+
+#[cfg(test)]
+mod bytes;
+#[cfg(test)]
+mod tests;

@@ -1,0 +1,10 @@
+pub mod Loop
+pub mod Formats
+pub mod FieldFormats
+pub mod PartFormats
+pub mod PartsByTag
+pub mod Segments
+pub mod Header
+pub mod Unique
+pub mod Bodies
+pub mod LawLemmas
