@@ -43,7 +43,7 @@ pub record Fits (table : ℕ → ℕ) (g : Graph) : Type 0 where
   pub packed : (p : ℕ × ℕ) → IsIn p (packing g) → IsPackedAt g.budget p.1 (table p.0)
   -- two young objects stand in one region exactly where their packing places lie in one
   pub together : (p q : ℕ × ℕ) → IsIn p (packing g) → IsIn q (packing g)
-    → (region_of (table p.0) ≡ region_of (table q.0)) ↔ (p.1 / region_bytes ≡ q.1 / region_bytes)
+      → (region_of (table p.0) ≡ region_of (table q.0)) ↔ (p.1 / region_bytes ≡ q.1 / region_bytes)
 
 -- an object stands in the image or in the zygote window
 abbrev pub in_spot_window : Place → Bool
