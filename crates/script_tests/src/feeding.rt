@@ -1,4 +1,6 @@
 //! Lines from the pieces of a text.
+ghost use Rattle.std.specs.Prelude.{◌≡◌, false, OnOk};
+
 use script_lang::{Fed, LineFeed};
 use std::alloc::{AllocError, Global};
 use std::test::Fail;
