@@ -75,6 +75,8 @@ def examples_of_folder(folder):
 def difference(program, example):
     """What isn't as the example says, or None."""
     ran = subprocess.run([program, *example.words], input=example.script, capture_output=True)
+    if ran.stdout and not ran.stdout.endswith(b"\n"):
+        return "the program's last line has no line feed"
     lines = ran.stdout.decode(errors="replace").splitlines()
     wanted = example.report
     if wanted[:1] == [".."]:
@@ -106,7 +108,7 @@ def main():
             differ += 1
             print(f"{example.place}: {found}", flush=True)
     print(f"{ran} examples ran, {differ} differ, {left_out} left out")
-    sys.exit(1 if differ else 0)
+    sys.exit(1 if differ or not ran else 0)
 
 
 main()
