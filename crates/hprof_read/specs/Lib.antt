@@ -1,2 +1,4 @@
 pub mod Fault
 pub mod Reading
+pub mod Putting
+pub mod Listing
