@@ -1,5 +1,6 @@
-use crate::bytes::{BUILT_IN, SMALL};
-use hprof_read::{Dump, ReadError, read_dump};
+use crate::bytes::{BUILT_IN, EACH, EACH_LISTING, SMALL, SMALL_LISTING};
+use ah_outside::{MemorySink, Sink};
+use hprof_read::{Dump, ReadError, read_dump, write_listing};
 use hprof_records::{SubRecord, TopRecord};
 use std::alloc::AllocError;
 use std::test::Fail;
@@ -126,5 +127,40 @@ fn records_of_a_dump(rt: HostRuntime) -> Result<(), Fail> {
         }
         _ => assert!(rt; false),
     }
+    Ok(())
+}
+
+#[test]
+fn listings(rt: HostRuntime) -> Result<(), Fail> {
+    for (bytes, listing) in [
+        (SMALL.as_slice(), SMALL_LISTING),
+        (EACH.as_slice(), EACH_LISTING),
+    ] {
+        let dump = read_dump(rt.alloc(), bytes).map_err(|_| AllocError)?;
+        let mut sink = MemorySink::new(rt.alloc(), 4_096, &[])?;
+        assert!(rt; write_listing(&dump, &mut sink).is_ok());
+        assert_eq!(rt; sink.bytes(), listing.as_bytes());
+    }
+    Ok(())
+}
+
+#[test]
+fn each_put_failing(rt: HostRuntime) -> Result<(), Fail> {
+    let dump = read_dump(rt.alloc(), &EACH).map_err(|_| AllocError)?;
+    let mut failed = 0;
+    for put in 1..1_000 {
+        let mut sink = MemorySink::new(rt.alloc(), 4_096, &[put])?;
+        let done = write_listing(&dump, &mut sink);
+        assert!(rt; EACH_LISTING.as_bytes().starts_with(sink.bytes()), "{put}");
+        if done.is_ok() {
+            assert_eq!(rt; sink.faults(), 0, "{put}");
+            assert_eq!(rt; sink.bytes(), EACH_LISTING.as_bytes(), "{put}");
+        } else {
+            assert_eq!(rt; sink.faults(), 1, "{put}");
+            assert!(rt; sink.bytes().len() < EACH_LISTING.len(), "{put}");
+            failed += 1;
+        }
+    }
+    assert!(rt; failed >= 100, "{failed} puts failed");
     Ok(())
 }

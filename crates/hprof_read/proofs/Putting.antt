@@ -1,16 +1,19 @@
 -- How puts follow one another.
-use Rattle.std.proofs.Common.{◌≡◌, ℕ, zero, suc, ◌+◌, ◌-◌, ◌^◌, ◌≤◌, ◌<◌, ◌⊎◌, inl, inr, List, [], ◌∷◌, ◌++◌, Option, Some, None, Result, Ok, Err, length, get_or, take, drop, map, refl, sym, ap, subst, ◌∙◌, append_assoc, arith}
-use Rattle.std.proofs.Common.{Bor}
+use Rattle.std.proofs.Common.{◌≡◌, ℕ, zero, suc, ◌+◌, ◌-◌, ◌≤◌, ◌<◌, inl, inr, List, [], ◌∷◌, ◌++◌, Option, Some, None, Result, Ok, Err, length, get_or, take, drop, map, refl, sym, ap, subst, ◌∙◌, append_assoc, arith}
 use Rattle.std.specs.List.{flat_map}
 use Rattle.std.proofs.lemmas.Bool.{cases_lt}
 use Rattle.std.proofs.lemmas.List.{append-nil, drop-take, take-append-drop, take-take, take_all, take_more}
 use Rattle.std.proofs.lemmas.List.Concat.{flat_map-append}
-use Rattle.std.specs.Prelude.{◌==◌, false, OnOk}
+use Rattle.std.specs.Prelude.{◌==◌, false, MatchResult, OnOk}
 use Rattle.std.proofs.Math.Bool.{true≢false}
 use Rattle.ah_outside.specs.Outside.{FaultRose, Gained, GainedPrefix}
 use Rattle.ah_outside.specs.declared.source.Failed.{Failed}
 use Rattle.hprof_read.specs.Listing.{hex_byte, hex, value_text}
-use Rattle.hprof_read.specs.Putting.{Puts, joined}
+use Rattle.hprof_read.specs.Putting.{joined}
+
+-- what a put does, in terms of what was gained and of how many faults there were
+abbrev pub IsPut : Option (List ℕ) → ℕ → List ℕ → Option (List ℕ) → ℕ → Result (Unit {0}) Failed → Type 0
+IsPut g f text g' f' r = (f ≤ f') × MatchResult r (λ _. Gained g text g') (λ _. GainedPrefix g text g' × FaultRose f f')
 
 gained_append : (old : Option (List ℕ)) (xs : List ℕ) (mid : Option (List ℕ)) (ys : List ℕ) (new : Option (List ℕ)) → Gained old xs mid → Gained mid ys new → Gained old (xs ++ ys) new
 gained_append None xs mid ys new a b = rw a at b
@@ -43,7 +46,7 @@ rose_from a b c h i r =
     ]
 
 -- what was put before, and then more
-pub then_put : (g : Option (List ℕ)) (f : ℕ) (a : List ℕ) (g' : Option (List ℕ)) (f' : ℕ) (b text : List ℕ) (g'' : Option (List ℕ)) (f'' : ℕ) (r : Result (Unit {0}) Failed) → (f ≤ f') × Gained g a g' → Puts g' f' b g'' f'' r → a ++ b ≡ text → Puts g f text g'' f'' r
+pub then_put : (g : Option (List ℕ)) (f : ℕ) (a : List ℕ) (g' : Option (List ℕ)) (f' : ℕ) (b text : List ℕ) (g'' : Option (List ℕ)) (f'' : ℕ) (r : Result (Unit {0}) Failed) → (f ≤ f') × Gained g a g' → IsPut g' f' b g'' f'' r → a ++ b ≡ text → IsPut g f text g'' f'' r
 then_put g f a g' f' b text g'' f'' (Ok u) h p is = (omega arith, subst (λ (t : List ℕ). Gained g t g'') is (gained_append g a g' b g'' h.1 p.1))
 then_put g f a g' f' b text g'' f'' (Err e) h p is =
     (omega arith, (subst (λ (t : List ℕ). GainedPrefix g t g'') is (prefix_behind g a g' b g'' h.1 p.1.0), rose_from f f' f'' h.0 p.0 p.1.1))
@@ -58,11 +61,11 @@ then_stopped g f a g' f' b c text g'' f'' h p is =
     (omega arith, (subst (λ (t : List ℕ). GainedPrefix g t g'') is (prefix_behind g a g' (b ++ c) g'' h.1 (prefix_front g' b c g'' p.1.0)), rose_from f f' f'' h.0 p.0 p.1.1))
 
 -- the same text in other words
-pub said : (g : Option (List ℕ)) (f : ℕ) (a text : List ℕ) (g' : Option (List ℕ)) (f' : ℕ) (r : Result (Unit {0}) Failed) → Puts g f a g' f' r → a ≡ text → Puts g f text g' f' r
-said g f a text g' f' r p is = subst (λ (t : List ℕ). Puts g f t g' f' r) is p
+pub said : (g : Option (List ℕ)) (f : ℕ) (a text : List ℕ) (g' : Option (List ℕ)) (f' : ℕ) (r : Result (Unit {0}) Failed) → IsPut g f a g' f' r → a ≡ text → IsPut g f text g' f' r
+said g f a text g' f' r p is = subst (λ (t : List ℕ). IsPut g f t g' f' r) is p
 
 -- a put that went well
-pub puts_ok : (g : Option (List ℕ)) (f : ℕ) (text : List ℕ) (g' : Option (List ℕ)) (f' : ℕ) (r : Result (Unit {0}) Failed) → Puts g f text g' f' r → OnOk r (Gained g text g')
+pub puts_ok : (g : Option (List ℕ)) (f : ℕ) (text : List ℕ) (g' : Option (List ℕ)) (f' : ℕ) (r : Result (Unit {0}) Failed) → IsPut g f text g' f' r → OnOk r (Gained g text g')
 puts_ok g f text g' f' (Ok u) p = p.1
 puts_ok g f text g' f' (Err e) p = tt
 

@@ -4,6 +4,7 @@
 mod class_parts;
 mod counts;
 mod dump;
+mod examples;
 mod fields;
 mod laws;
 mod lines;

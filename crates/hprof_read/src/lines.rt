@@ -15,7 +15,7 @@ use hprof_records::{Bytes, Ids, SubList, SubRecord, TopRecord};
 use itoa::Buffer;
 
 fn put_constant<W: Sink>(sink: &mut W, one: &(u16, u8, Bytes)) -> Result<(), Failed>
-    ensures { Puts (W.gained sink.old) (W.fault_count sink.old) (constant_line one.now) (W.gained sink.new) (W.fault_count sink.new) result }
+    ensures { Puts W.gained W.fault_count sink.old (constant_line one.now) sink.new result }
 {
     let mut index = Buffer::new();
     let mut code = Buffer::new();
@@ -33,7 +33,7 @@ fn put_constant<W: Sink>(sink: &mut W, one: &(u16, u8, Bytes)) -> Result<(), Fai
 }
 
 fn put_static<W: Sink>(sink: &mut W, one: &(u32, u8, Bytes)) -> Result<(), Failed>
-    ensures { Puts (W.gained sink.old) (W.fault_count sink.old) (static_line one.now) (W.gained sink.new) (W.fault_count sink.new) result }
+    ensures { Puts W.gained W.fault_count sink.old (static_line one.now) sink.new result }
 {
     let mut name = Buffer::new();
     let mut code = Buffer::new();
@@ -51,7 +51,7 @@ fn put_static<W: Sink>(sink: &mut W, one: &(u32, u8, Bytes)) -> Result<(), Faile
 }
 
 fn put_field<W: Sink>(sink: &mut W, one: &(u32, u8)) -> Result<(), Failed>
-    ensures { Puts (W.gained sink.old) (W.fault_count sink.old) (field_line one.now) (W.gained sink.new) (W.fault_count sink.new) result }
+    ensures { Puts W.gained W.fault_count sink.old (field_line one.now) sink.new result }
 {
     let mut name = Buffer::new();
     let mut code = Buffer::new();
@@ -68,7 +68,7 @@ fn put_field<W: Sink>(sink: &mut W, one: &(u32, u8)) -> Result<(), Failed>
 }
 
 fn put_constants<W: Sink>(sink: &mut W, list: &[(u16, u8, Bytes)]) -> Result<(), Failed>
-    ensures { Puts (W.gained sink.old) (W.fault_count sink.old) (flat_map constant_line list.now) (W.gained sink.new) (W.fault_count sink.new) result }
+    ensures { Puts W.gained W.fault_count sink.old (flat_map constant_line list.now) sink.new result }
 {
     for one in list {
         put_constant(sink, one)?;
@@ -77,7 +77,7 @@ fn put_constants<W: Sink>(sink: &mut W, list: &[(u16, u8, Bytes)]) -> Result<(),
 }
 
 fn put_statics<W: Sink>(sink: &mut W, list: &[(u32, u8, Bytes)]) -> Result<(), Failed>
-    ensures { Puts (W.gained sink.old) (W.fault_count sink.old) (flat_map static_line list.now) (W.gained sink.new) (W.fault_count sink.new) result }
+    ensures { Puts W.gained W.fault_count sink.old (flat_map static_line list.now) sink.new result }
 {
     for one in list {
         put_static(sink, one)?;
@@ -86,7 +86,7 @@ fn put_statics<W: Sink>(sink: &mut W, list: &[(u32, u8, Bytes)]) -> Result<(), F
 }
 
 fn put_fields<W: Sink>(sink: &mut W, list: &[(u32, u8)]) -> Result<(), Failed>
-    ensures { Puts (W.gained sink.old) (W.fault_count sink.old) (flat_map field_line list.now) (W.gained sink.new) (W.fault_count sink.new) result }
+    ensures { Puts W.gained W.fault_count sink.old (flat_map field_line list.now) sink.new result }
 {
     for one in list {
         put_field(sink, one)?;
@@ -114,7 +114,7 @@ fn put_class_line<W: Sink>(
     statics: usize,
     fields: usize,
 ) -> Result<(), Failed>
-    ensures { let h = head.now in Puts (W.gained sink.old) (W.fault_count sink.old) (class_line h.id h.stack h.parent h.loader h.signers h.domain h.size constants statics fields) (W.gained sink.new) (W.fault_count sink.new) result }
+    ensures { let h = head.now in Puts W.gained W.fault_count sink.old (class_line h.id h.stack h.parent h.loader h.signers h.domain h.size constants statics fields) sink.new result }
 {
     let id = id_of(head.id);
     let parent = id_of(head.parent);
@@ -161,7 +161,7 @@ fn put_class_lists<W: Sink>(
     statics: &[(u32, u8, Bytes)],
     fields: &[(u32, u8)],
 ) -> Result<(), Failed>
-    ensures { Puts (W.gained sink.old) (W.fault_count sink.old) (flat_map constant_line constants.now ++ (flat_map static_line statics.now ++ flat_map field_line fields.now)) (W.gained sink.new) (W.fault_count sink.new) result }
+    ensures { Puts W.gained W.fault_count sink.old (flat_map constant_line constants.now ++ (flat_map static_line statics.now ++ flat_map field_line fields.now)) sink.new result }
 {
     put_constants(sink, constants)?;
     put_statics(sink, statics)?;
@@ -176,7 +176,7 @@ fn put_class<W: Sink>(
     statics: &[(u32, u8, Bytes)],
     fields: &[(u32, u8)],
 ) -> Result<(), Failed>
-    ensures { let h = head.now in Puts (W.gained sink.old) (W.fault_count sink.old) (class_line h.id h.stack h.parent h.loader h.signers h.domain h.size (length constants.now) (length statics.now) (length fields.now) ++ (flat_map constant_line constants.now ++ (flat_map static_line statics.now ++ flat_map field_line fields.now))) (W.gained sink.new) (W.fault_count sink.new) result }
+    ensures { let h = head.now in Puts W.gained W.fault_count sink.old (class_line h.id h.stack h.parent h.loader h.signers h.domain h.size (length constants.now) (length statics.now) (length fields.now) ++ (flat_map constant_line constants.now ++ (flat_map static_line statics.now ++ flat_map field_line fields.now))) sink.new result }
 {
     put_class_line(sink, head, constants.len(), statics.len(), fields.len())?;
     put_class_lists(sink, constants, statics, fields)
@@ -189,7 +189,7 @@ fn put_root<W: Sink>(
     first: Option<u32>,
     second: Option<u32>,
 ) -> Result<(), Failed>
-    ensures { Puts (W.gained sink.old) (W.fault_count sink.old) (part_lines (Root tag id first second)) (W.gained sink.new) (W.fault_count sink.new) result }
+    ensures { Puts W.gained W.fault_count sink.old (part_lines (Root tag id first second)) sink.new result }
 {
     let mut first_text = Buffer::new();
     let mut second_text = Buffer::new();
@@ -217,7 +217,7 @@ fn put_root<W: Sink>(
 }
 
 fn put_heap<W: Sink>(sink: &mut W, heap: u32, name: u32) -> Result<(), Failed>
-    ensures { Puts (W.gained sink.old) (W.fault_count sink.old) (part_lines (HeapInfo heap name)) (W.gained sink.new) (W.fault_count sink.new) result }
+    ensures { Puts W.gained W.fault_count sink.old (part_lines (HeapInfo heap name)) sink.new result }
 {
     let mut heap_text = Buffer::new();
     let mut name_text = Buffer::new();
@@ -240,7 +240,7 @@ fn put_instance<W: Sink>(
     class: u32,
     bytes: &Bytes,
 ) -> Result<(), Failed>
-    ensures { Puts (W.gained sink.old) (W.fault_count sink.old) (part_lines (Instance id stack class bytes.now)) (W.gained sink.new) (W.fault_count sink.new) result }
+    ensures { Puts W.gained W.fault_count sink.old (part_lines (Instance id stack class bytes.now)) sink.new result }
 {
     let id = id_of(id);
     let class = id_of(class);
@@ -267,7 +267,7 @@ fn put_array<W: Sink>(
     class: u32,
     items: &Ids,
 ) -> Result<(), Failed>
-    ensures { Puts (W.gained sink.old) (W.fault_count sink.old) (part_lines (ObjectArray id stack class items.now)) (W.gained sink.new) (W.fault_count sink.new) result }
+    ensures { Puts W.gained W.fault_count sink.old (part_lines (ObjectArray id stack class items.now)) sink.new result }
 {
     let id = id_of(id);
     let class = id_of(class);
@@ -297,7 +297,7 @@ fn put_numbers<W: Sink>(
     count: u32,
     bytes: &Bytes,
 ) -> Result<(), Failed>
-    ensures { Puts (W.gained sink.old) (W.fault_count sink.old) (part_lines (PrimitiveArray id stack code count bytes.now)) (W.gained sink.new) (W.fault_count sink.new) result }
+    ensures { Puts W.gained W.fault_count sink.old (part_lines (PrimitiveArray id stack code count bytes.now)) sink.new result }
 {
     let id = id_of(id);
     let mut stack_text = Buffer::new();
@@ -327,7 +327,7 @@ fn put_no_data<W: Sink>(
     count: u32,
     code: u8,
 ) -> Result<(), Failed>
-    ensures { Puts (W.gained sink.old) (W.fault_count sink.old) (part_lines (NoData id stack count code)) (W.gained sink.new) (W.fault_count sink.new) result }
+    ensures { Puts W.gained W.fault_count sink.old (part_lines (NoData id stack count code)) sink.new result }
 {
     let id = id_of(id);
     let mut stack_text = Buffer::new();
@@ -350,7 +350,7 @@ fn put_no_data<W: Sink>(
 }
 
 fn put_part<W: Sink>(sink: &mut W, part: &SubRecord) -> Result<(), Failed>
-    ensures { Puts (W.gained sink.old) (W.fault_count sink.old) (part_lines part.now) (W.gained sink.new) (W.fault_count sink.new) result }
+    ensures { Puts W.gained W.fault_count sink.old (part_lines part.now) sink.new result }
 {
     match part {
         SubRecord::Root {
@@ -419,7 +419,7 @@ fn put_part<W: Sink>(sink: &mut W, part: &SubRecord) -> Result<(), Failed>
 }
 
 fn put_parts<W: Sink>(sink: &mut W, parts: &[SubRecord]) -> Result<(), Failed>
-    ensures { Puts (W.gained sink.old) (W.fault_count sink.old) (flat_map part_lines parts.now) (W.gained sink.new) (W.fault_count sink.new) result }
+    ensures { Puts W.gained W.fault_count sink.old (flat_map part_lines parts.now) sink.new result }
 {
     for part in parts {
         put_part(sink, part)?;
@@ -428,7 +428,7 @@ fn put_parts<W: Sink>(sink: &mut W, parts: &[SubRecord]) -> Result<(), Failed>
 }
 
 fn put_string<W: Sink>(sink: &mut W, id: u32, bytes: &Bytes) -> Result<(), Failed>
-    ensures { Puts (W.gained sink.old) (W.fault_count sink.old) (record_lines (Text 0 id bytes.now)) (W.gained sink.new) (W.fault_count sink.new) result }
+    ensures { Puts W.gained W.fault_count sink.old (record_lines (Text 0 id bytes.now)) sink.new result }
 {
     let mut id_text = Buffer::new();
     put_text_line(
@@ -445,7 +445,7 @@ fn put_load<W: Sink>(
     stack: u32,
     name: u32,
 ) -> Result<(), Failed>
-    ensures { Puts (W.gained sink.old) (W.fault_count sink.old) (record_lines (LoadClass 0 serial class stack name [])) (W.gained sink.new) (W.fault_count sink.new) result }
+    ensures { Puts W.gained W.fault_count sink.old (record_lines (LoadClass 0 serial class stack name [])) sink.new result }
 {
     let class = id_of(class);
     let mut serial_text = Buffer::new();
@@ -468,7 +468,7 @@ fn put_load<W: Sink>(
 }
 
 fn put_trace<W: Sink>(sink: &mut W, serial: u32, thread: u32, frames: &Ids) -> Result<(), Failed>
-    ensures { Puts (W.gained sink.old) (W.fault_count sink.old) (record_lines (Trace 0 serial thread frames.now [])) (W.gained sink.new) (W.fault_count sink.new) result }
+    ensures { Puts W.gained W.fault_count sink.old (record_lines (Trace 0 serial thread frames.now [])) sink.new result }
 {
     let mut serial_text = Buffer::new();
     let mut thread_text = Buffer::new();
@@ -488,7 +488,7 @@ fn put_trace<W: Sink>(sink: &mut W, serial: u32, thread: u32, frames: &Ids) -> R
 }
 
 fn put_other<W: Sink>(sink: &mut W, tag: u8, body: &Bytes) -> Result<(), Failed>
-    ensures { Puts (W.gained sink.old) (W.fault_count sink.old) (record_lines (Other 0 tag body.now)) (W.gained sink.new) (W.fault_count sink.new) result }
+    ensures { Puts W.gained W.fault_count sink.old (record_lines (Other 0 tag body.now)) sink.new result }
 {
     let tag = tag_of(tag);
     let mut length_text = Buffer::new();
@@ -505,7 +505,7 @@ fn put_other<W: Sink>(sink: &mut W, tag: u8, body: &Bytes) -> Result<(), Failed>
 }
 
 fn put_segment<W: Sink>(sink: &mut W, tag: u8, length: u32, parts: &SubList) -> Result<(), Failed>
-    ensures { Puts (W.gained sink.old) (W.fault_count sink.old) (record_lines (Segment 0 tag length parts.now)) (W.gained sink.new) (W.fault_count sink.new) result }
+    ensures { Puts W.gained W.fault_count sink.old (record_lines (Segment 0 tag length parts.now)) sink.new result }
 {
     let tag = tag_of(tag);
     let mut length_text = Buffer::new();
@@ -523,7 +523,7 @@ fn put_segment<W: Sink>(sink: &mut W, tag: u8, length: u32, parts: &SubList) -> 
 }
 
 fn put_record<W: Sink>(sink: &mut W, one: &TopRecord) -> Result<(), Failed>
-    ensures { Puts (W.gained sink.old) (W.fault_count sink.old) (record_lines one.now) (W.gained sink.new) (W.fault_count sink.new) result }
+    ensures { Puts W.gained W.fault_count sink.old (record_lines one.now) sink.new result }
 {
     match one {
         TopRecord::Text { id, bytes, .. } => put_string(sink, *id, bytes),
@@ -551,7 +551,7 @@ fn put_record<W: Sink>(sink: &mut W, one: &TopRecord) -> Result<(), Failed>
 }
 
 fn put_records<W: Sink>(sink: &mut W, records: &[TopRecord]) -> Result<(), Failed>
-    ensures { Puts (W.gained sink.old) (W.fault_count sink.old) (flat_map record_lines records.now) (W.gained sink.new) (W.fault_count sink.new) result }
+    ensures { Puts W.gained W.fault_count sink.old (flat_map record_lines records.now) sink.new result }
 {
     for one in records {
         put_record(sink, one)?;
@@ -560,7 +560,7 @@ fn put_records<W: Sink>(sink: &mut W, records: &[TopRecord]) -> Result<(), Faile
 }
 
 fn put_header<W: Sink>(sink: &mut W, time: u64) -> Result<(), Failed>
-    ensures { Puts (W.gained sink.old) (W.fault_count sink.old) (header_line time) (W.gained sink.new) (W.fault_count sink.new) result }
+    ensures { Puts W.gained W.fault_count sink.old (header_line time) sink.new result }
 {
     let mut time_text = Buffer::new();
     put_pieces(
@@ -574,7 +574,7 @@ fn put_header<W: Sink>(sink: &mut W, time: u64) -> Result<(), Failed>
 }
 
 fn put_last<W: Sink>(sink: &mut W, records: &[TopRecord]) -> Result<(), Failed>
-    ensures { Puts (W.gained sink.old) (W.fault_count sink.old) (last_line records.now) (W.gained sink.new) (W.fault_count sink.new) result }
+    ensures { Puts W.gained W.fault_count sink.old (last_line records.now) sink.new result }
 {
     let mut count_text = Buffer::new();
     let mut classes_text = Buffer::new();
@@ -604,7 +604,7 @@ fn put_last<W: Sink>(sink: &mut W, records: &[TopRecord]) -> Result<(), Failed>
 
 /// The listing, line by line.
 fn put_listing<W: Sink>(sink: &mut W, time: u64, records: &[TopRecord]) -> Result<(), Failed>
-    ensures { Puts (W.gained sink.old) (W.fault_count sink.old) (listing time records.now) (W.gained sink.new) (W.fault_count sink.new) result }
+    ensures { Puts W.gained W.fault_count sink.old (listing time records.now) sink.new result }
 {
     put_header(sink, time)?;
     put_records(sink, records)?;

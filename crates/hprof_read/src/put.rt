@@ -45,14 +45,14 @@ pub fn id_of(id: u32) -> [u8; 10]
 
 /// Puts one piece.
 pub fn put_piece<W: Sink>(sink: &mut W, piece: &[u8]) -> Result<(), Failed>
-    ensures { Puts (W.gained sink.old) (W.fault_count sink.old) piece.now (W.gained sink.new) (W.fault_count sink.new) result }
+    ensures { Puts W.gained W.fault_count sink.old piece.now sink.new result }
 {
     put_all(sink, piece)
 }
 
 /// Puts the pieces, one after another.
 pub fn put_pieces<W: Sink>(sink: &mut W, pieces: &[&[u8]]) -> Result<(), Failed>
-    ensures { Puts (W.gained sink.old) (W.fault_count sink.old) (flat_map (λ p. p.now) pieces.now) (W.gained sink.new) (W.fault_count sink.new) result }
+    ensures { Puts W.gained W.fault_count sink.old (flat_map (λ p. p.now) pieces.now) sink.new result }
 {
     for piece in pieces {
         put_piece(sink, piece)?;
@@ -78,7 +78,7 @@ const CHUNK: usize = 64;
 /// The digits of some bytes, in one piece.
 fn put_chunk<W: Sink>(sink: &mut W, bytes: &[u8]) -> Result<(), Failed>
     requires { length bytes.now ≤ CHUNK }
-    ensures { Puts (W.gained sink.old) (W.fault_count sink.old) (hex bytes.now) (W.gained sink.new) (W.fault_count sink.new) result }
+    ensures { Puts W.gained W.fault_count sink.old (hex bytes.now) sink.new result }
 {
     let mut digits = [0u8; 2 * CHUNK];
     write_hex(bytes, &mut digits);
@@ -86,7 +86,7 @@ fn put_chunk<W: Sink>(sink: &mut W, bytes: &[u8]) -> Result<(), Failed>
 }
 
 fn put_hex<W: Sink>(sink: &mut W, bytes: &[u8]) -> Result<(), Failed>
-    ensures { Puts (W.gained sink.old) (W.fault_count sink.old) (hex bytes.now) (W.gained sink.new) (W.fault_count sink.new) result }
+    ensures { Puts W.gained W.fault_count sink.old (hex bytes.now) sink.new result }
 {
     let mut done = 0;
     while done < bytes.len() {
@@ -99,7 +99,7 @@ fn put_hex<W: Sink>(sink: &mut W, bytes: &[u8]) -> Result<(), Failed>
 
 /// A value's bytes, and the end of the line.
 fn put_value<W: Sink>(sink: &mut W, bytes: &[u8]) -> Result<(), Failed>
-    ensures { Puts (W.gained sink.old) (W.fault_count sink.old) (value_text bytes.now ++ codes "\n") (W.gained sink.new) (W.fault_count sink.new) result }
+    ensures { Puts W.gained W.fault_count sink.old (value_text bytes.now ++ codes "\n") sink.new result }
 {
     if bytes.is_empty() {
         return put_piece(sink, b"-\n");
@@ -109,7 +109,7 @@ fn put_value<W: Sink>(sink: &mut W, bytes: &[u8]) -> Result<(), Failed>
 }
 
 fn put_shown<W: Sink>(sink: &mut W, byte: u8) -> Result<(), Failed>
-    ensures { Puts (W.gained sink.old) (W.fault_count sink.old) (shown_byte byte) (W.gained sink.new) (W.fault_count sink.new) result }
+    ensures { Puts W.gained W.fault_count sink.old (shown_byte byte) sink.new result }
 {
     if byte != b'\\' && (0x20..=0x7e).contains(&byte) {
         put_piece(sink, &[byte])
@@ -120,7 +120,7 @@ fn put_shown<W: Sink>(sink: &mut W, byte: u8) -> Result<(), Failed>
 }
 
 fn put_all_shown<W: Sink>(sink: &mut W, bytes: &[u8]) -> Result<(), Failed>
-    ensures { Puts (W.gained sink.old) (W.fault_count sink.old) (flat_map shown_byte bytes.now) (W.gained sink.new) (W.fault_count sink.new) result }
+    ensures { Puts W.gained W.fault_count sink.old (flat_map shown_byte bytes.now) sink.new result }
 {
     for byte in bytes {
         put_shown(sink, *byte)?;
@@ -130,7 +130,7 @@ fn put_all_shown<W: Sink>(sink: &mut W, bytes: &[u8]) -> Result<(), Failed>
 
 /// A text's bytes, and the end of the line.
 fn put_text<W: Sink>(sink: &mut W, bytes: &[u8]) -> Result<(), Failed>
-    ensures { Puts (W.gained sink.old) (W.fault_count sink.old) (flat_map shown_byte bytes.now ++ codes "\n") (W.gained sink.new) (W.fault_count sink.new) result }
+    ensures { Puts W.gained W.fault_count sink.old (flat_map shown_byte bytes.now ++ codes "\n") sink.new result }
 {
     put_all_shown(sink, bytes)?;
     put_piece(sink, b"\n")
@@ -145,7 +145,7 @@ fn spaced(id: u32) -> [u8; 11]
 }
 
 fn put_spaced<W: Sink>(sink: &mut W, ids: &[u32]) -> Result<(), Failed>
-    ensures { Puts (W.gained sink.old) (W.fault_count sink.old) (flat_map spaced_id ids.now) (W.gained sink.new) (W.fault_count sink.new) result }
+    ensures { Puts W.gained W.fault_count sink.old (flat_map spaced_id ids.now) sink.new result }
 {
     for id in ids {
         put_piece(sink, &spaced(*id))?;
@@ -155,7 +155,7 @@ fn put_spaced<W: Sink>(sink: &mut W, ids: &[u32]) -> Result<(), Failed>
 
 /// Identifiers, and the end of the line.
 fn put_ids<W: Sink>(sink: &mut W, ids: &[u32]) -> Result<(), Failed>
-    ensures { Puts (W.gained sink.old) (W.fault_count sink.old) (flat_map spaced_id ids.now ++ codes "\n") (W.gained sink.new) (W.fault_count sink.new) result }
+    ensures { Puts W.gained W.fault_count sink.old (flat_map spaced_id ids.now ++ codes "\n") sink.new result }
 {
     put_spaced(sink, ids)?;
     put_piece(sink, b"\n")
@@ -163,7 +163,7 @@ fn put_ids<W: Sink>(sink: &mut W, ids: &[u32]) -> Result<(), Failed>
 
 /// A line that ends with a value.
 pub fn put_value_line<W: Sink>(sink: &mut W, pieces: &[&[u8]], bytes: &[u8]) -> Result<(), Failed>
-    ensures { Puts (W.gained sink.old) (W.fault_count sink.old) (joined (map (λ p. p.now) pieces.now) (value_text bytes.now ++ codes "\n")) (W.gained sink.new) (W.fault_count sink.new) result }
+    ensures { Puts W.gained W.fault_count sink.old (joined (map (λ p. p.now) pieces.now) (value_text bytes.now ++ codes "\n")) sink.new result }
 {
     put_pieces(sink, pieces)?;
     put_value(sink, bytes)
@@ -171,7 +171,7 @@ pub fn put_value_line<W: Sink>(sink: &mut W, pieces: &[&[u8]], bytes: &[u8]) -> 
 
 /// A line that ends with a text.
 pub fn put_text_line<W: Sink>(sink: &mut W, pieces: &[&[u8]], bytes: &[u8]) -> Result<(), Failed>
-    ensures { Puts (W.gained sink.old) (W.fault_count sink.old) (joined (map (λ p. p.now) pieces.now) (flat_map shown_byte bytes.now ++ codes "\n")) (W.gained sink.new) (W.fault_count sink.new) result }
+    ensures { Puts W.gained W.fault_count sink.old (joined (map (λ p. p.now) pieces.now) (flat_map shown_byte bytes.now ++ codes "\n")) sink.new result }
 {
     put_pieces(sink, pieces)?;
     put_text(sink, bytes)
@@ -179,7 +179,7 @@ pub fn put_text_line<W: Sink>(sink: &mut W, pieces: &[&[u8]], bytes: &[u8]) -> R
 
 /// A line that ends with identifiers.
 pub fn put_ids_line<W: Sink>(sink: &mut W, pieces: &[&[u8]], ids: &[u32]) -> Result<(), Failed>
-    ensures { Puts (W.gained sink.old) (W.fault_count sink.old) (joined (map (λ p. p.now) pieces.now) (flat_map spaced_id ids.now ++ codes "\n")) (W.gained sink.new) (W.fault_count sink.new) result }
+    ensures { Puts W.gained W.fault_count sink.old (joined (map (λ p. p.now) pieces.now) (flat_map spaced_id ids.now ++ codes "\n")) sink.new result }
 {
     put_pieces(sink, pieces)?;
     put_ids(sink, ids)

@@ -1,4 +1,3 @@
-use Rattle.std.proofs.Common.{refl}
 use Rattle.std.proofs.lemmas.Result.{err_from_is_err_and}
 use Rattle.hprof_read.specs.Listing.{spaced_id}
 use Rattle.hprof_read.proofs.Putting.{each_more, each_stop}
