@@ -59,7 +59,7 @@ class-put ss cs k id parent size fields o d hid hsize hparent hfields h =
       let e : ClassDump id 0 parent 0 0 0 0 0 size [] [] (map (field_entry ss) fields) ≡ class_dump ss cs k c = cc in
       h ∙ ap (λ p. o ++ bytes_of_part p) e
 
-none-up : (cs : List Class) (n : ℕ) → places_up cs n None ≡ []
+pub none-up : (cs : List Class) (n : ℕ) → places_up cs n None ≡ []
 none-up cs zero = refl
 none-up cs (suc n) = refl
 

@@ -5,3 +5,9 @@ pub mod Chains
 pub mod Fillings
 pub mod ValuesAt
 pub mod RecordRuns
+pub mod Texts
+pub mod InstancePlaces
+pub mod Windows
+pub mod ArrayParts
+pub mod DumpReads
+pub mod ItemRuns

@@ -1,14 +1,13 @@
 //! The objects of a dump.
-ghost use Rattle.std.specs.Prelude.{◌≡◌, ℕ, ◌+◌, ◌*◌, ◌/◌, ◌<◌, ◌++◌, [], length, IfOk, OnOk};
+ghost use Rattle.std.specs.Prelude.{◌≡◌, ◌<◌, ◌++◌, true, false, length, OnOk};
+ghost use Rattle.class_layout.specs.declared.kind.Kind.{Kind};
 ghost use Rattle.class_layout.specs.Placing.{IsIn};
 ghost use Rattle.heap_graph.specs.declared.names.Shape.{Shape};
 ghost use Rattle.heap_graph.specs.Graph.{size_of_object, Object};
-ghost use Rattle.heap_graph.specs.Table.{in_spot_window};
-ghost use Rattle.object_view.specs.Objects.{elements_from};
-ghost use Rattle.object_view.specs.Seen.{count_if, heap_of, is_in_window, seen_of, RoseBy};
+ghost use Rattle.object_view.specs.Seen.{count_if, heap_of, is_in_window, seen_of, IsShown, RoseBy};
 ghost use Rattle.hprof_records.specs.declared.sub_record.SubRecord.TheVariants.{Instance};
 ghost use Rattle.hprof_records.specs.Parts.{bytes_of_part};
-ghost use Rattle.hprof_write.specs.Objects.{array_head, dumped_places, object_part, shape_part};
+ghost use Rattle.hprof_write.specs.Objects.{array_head, array_head_if, dumped_places, object_part, shape_part};
 ghost use Rattle.hprof_write.specs.Reads.{object_values};
 ghost use Rattle.hprof_write.specs.Segments.{with_heap, with_object, Filling, IsCurrent};
 
@@ -31,7 +30,8 @@ pub(crate) fn put_object<V: HeapView>(
     current: &mut Current,
     seen: &Seen,
 ) -> Result<(), AllocError>
-    requires { (o : Object) × IsIn o (V.graph view.old).objects × (seen.now ≡ seen_of (V.table view.old) o) }
+    requires shown { IsShown (V.graph view.old) (V.table view.old) }
+    requires object { (o : Object) × IsIn o (V.graph view.old).objects × (seen.now ≡ seen_of (V.table view.old) o) }
     ensures ok { OnOk result ((o : Object) (f : Filling) → IsIn o (V.graph view.old).objects → seen.now ≡ seen_of (V.table view.old) o
         → IsCurrent f current.old.body.items current.old.objects current.old.heap
         → IsCurrent (with_object (with_heap strings.now.keys (heap_of o.place) f) (object_part (V.graph view.old).classes (V.table view.old) o))
@@ -59,7 +59,8 @@ fn put_shape<V: HeapView>(
     at: Addr,
     shape: Shape,
 ) -> Result<(), AllocError>
-    requires { (o : Object) × IsIn o (V.graph view.old).objects × ((V.table view.old) o.number ≡ at.0) × (o.shape ≡ shape) }
+    requires shown { IsShown (V.graph view.old) (V.table view.old) }
+    requires object { (o : Object) × IsIn o (V.graph view.old).objects × ((V.table view.old) o.number ≡ at.0) × (o.shape ≡ shape) }
     ensures ok { OnOk result ((o : Object) → IsIn o (V.graph view.old).objects → (V.table view.old) o.number ≡ at.0 → o.shape ≡ shape
         → out.new.items ≡ out.old.items ++ bytes_of_part (shape_part (V.graph view.old).classes (V.table view.old) o shape)) }
     ensures given { V.given view.new ≡ V.given view.old }
@@ -122,12 +123,25 @@ fn put_instance_part(
 fn put_array_head(out: &mut Vec<u8>, at: Addr, kind: Kind, count: u32) -> Result<(), AllocError>
     ensures { OnOk result (out.new.items ≡ out.old.items ++ array_head at.0 kind count) }
 {
-    if kind == Kind::Ref {
-        put_u8(out, 0x22)?;
-        put_words(out, &[at.0, 0, count, ARRAY_CLASS])
-    } else {
-        put_u8(out, 0x23)?;
-        put_words(out, &[at.0, 0, count])?;
-        put_u8(out, kind_code(kind))
+    match kind {
+        Kind::Ref => put_references_head(out, at, count),
+        _ => put_numbers_head(out, at, kind, count),
     }
+}
+
+// What stands before the references of an array.
+fn put_references_head(out: &mut Vec<u8>, at: Addr, count: u32) -> Result<(), AllocError>
+    ensures { OnOk result (out.new.items ≡ out.old.items ++ array_head_if true at.0 Kind.Ref count) }
+{
+    put_u8(out, 0x22)?;
+    put_words(out, &[at.0, 0, count, ARRAY_CLASS])
+}
+
+// What stands before the numbers of an array.
+fn put_numbers_head(out: &mut Vec<u8>, at: Addr, kind: Kind, count: u32) -> Result<(), AllocError>
+    ensures { OnOk result (out.new.items ≡ out.old.items ++ array_head_if false at.0 kind count) }
+{
+    put_u8(out, 0x23)?;
+    put_words(out, &[at.0, 0, count])?;
+    put_u8(out, kind_code(kind))
 }

@@ -18,11 +18,19 @@ pub(crate) fn strings_of(alloc: Global, classes: &Classes) -> Result<IndexSet<Na
             classes.own_fields(class),
         )?;
     }
-    strings.insert(Name::of(b"java.lang.Object[]").unwrap())?;
-    strings.insert(Name::of(b"app").unwrap())?;
-    strings.insert(Name::of(b"image").unwrap())?;
-    strings.insert(Name::of(b"zygote").unwrap())?;
+    add_text(&mut strings, Name::of(b"java.lang.Object[]").unwrap())?;
+    add_text(&mut strings, Name::of(b"app").unwrap())?;
+    add_text(&mut strings, Name::of(b"image").unwrap())?;
+    add_text(&mut strings, Name::of(b"zygote").unwrap())?;
     Ok(strings)
+}
+
+// A text, which goes last where it is new.
+fn add_text(strings: &mut IndexSet<Name>, text: Name) -> Result<(), AllocError>
+    ensures { OnOk result (strings.new.keys ≡ with_text strings.old.keys text) }
+{
+    strings.insert(text)?;
+    Ok(())
 }
 
 // The name of a class, and those of its fields.

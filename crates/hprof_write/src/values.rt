@@ -3,7 +3,8 @@ ghost use Rattle.std.specs.Prelude.{◌≡◌, ◌<◌, ◌∷◌, ◌++◌, [],
 ghost use Rattle.heap_graph.specs.declared.names.Shape.{Shape};
 ghost use Rattle.heap_graph.specs.Graph.{Object};
 ghost use Rattle.heap_graph.specs.Sizes.{is_too_large};
-ghost use Rattle.object_view.specs.Objects.{elements_from};
+ghost use Rattle.class_layout.specs.Placing.{IsIn};
+ghost use Rattle.object_view.specs.Objects.{elements_from, places_of};
 ghost use Rattle.object_view.specs.Seen.{count_if, is_in_window, value_in, RoseBy};
 ghost use Rattle.hprof_write.specs.Objects.{dumped_places, own_places, value_bytes, values_bytes, HasValues};
 
@@ -21,7 +22,8 @@ pub(crate) fn dumped_places(
     class: u32,
 ) -> Result<Vec<FieldAt>, AllocError>
     requires { class < length classes.now }
-    ensures { IfOk result (λ places. places.items ≡ dumped_places classes.now class) }
+    ensures places { IfOk result (λ places. places.items ≡ dumped_places classes.now class) }
+    ensures within { IfOk result (λ places. (p : _) → IsIn p places.items → IsIn p (places_of classes.now (Shape.Instance class))) }
 {
     let _all = classes.count();
     let mut places = Vec::new(alloc);
@@ -42,7 +44,8 @@ fn add_own_places(
     class: u32,
 ) -> Result<(), AllocError>
     requires { class < length classes.now }
-    ensures { OnOk result (places.new.items ≡ places.old.items ++ own_places classes.now class) }
+    ensures places { OnOk result (places.new.items ≡ places.old.items ++ own_places classes.now class) }
+    ensures within { OnOk result ((p : _) → IsIn p (own_places classes.now class) → IsIn p (places_of classes.now (Shape.Instance class))) }
 {
     for k in 0..classes.own_fields(class).len() {
         places.push(classes.field_at(class, k))?;
