@@ -1,14 +1,18 @@
 -- The walk over the objects of a dump: the reads so far.
-use Rattle.std.proofs.Common.{◌≡◌, ℕ, zero, suc, ◌+◌, ◌*◌, ◌/◌, ◌≤◌, Bool, true, false, ◌||◌, List, [], ◌∷◌, ◌++◌, Some, take, drop, sum_by, refl, sym, ap, ◌∙◌, subst, arith, add-one}
+use Rattle.std.proofs.Common.{◌≡◌, ℕ, zero, suc, ◌+◌, ◌*◌, ◌/◌, ◌≤◌, Bool, true, false, ◌||◌, List, [], ◌∷◌, ◌++◌, Option, Some, None, take, drop, sum_by, refl, sym, ap, ◌∙◌, subst, arith, add-one}
 use Rattle.std.proofs.lemmas.List.{take-append-drop}
 use Rattle.std.proofs.lemmas.List.Sums.{sum_by-cons}
 use Rattle.std.specs.List.{slice_get}
 use Rattle.class_layout.specs.ClassList.{Class}
-use Rattle.heap_graph.specs.Graph.{Object, size_of_object}
+use Rattle.std.specs.Option.{IsSomeAnd}
+use Rattle.class_layout.specs.Placing.{IsIn}
+use Rattle.heap_graph.specs.Graph.{Graph, Object, size_of_object}
+use Rattle.object_view.specs.declared.heap_view.Seen.{Seen}
 use Rattle.heap_graph.specs.Table.{in_spot_window}
-use Rattle.object_view.specs.Seen.{RoseBy, count_if, has_spots, step_reads}
+use Rattle.object_view.specs.Seen.{RoseBy, count_if, has_spots, seen_of, step_reads}
 use Rattle.hprof_write.specs.Reads.{object_reads, object_values}
 use Rattle.hprof_write.proofs.TableLines.{take-more}
+use Rattle.hprof_write.proofs.ValuesAt.{IsIn-slice_get}
 
 -- the reads of a step of the walk, and of the values of its object
 abbrev pub put_reads : List Class → Object → ℕ
@@ -82,3 +86,66 @@ IsPut-more cs os k before mid now o e h r =
     let c = r.never_falls in
     let d = r.most in
     record { rose = record { never_falls = omega arith; most = omega arith } }
+
+-- one more object, whatever it is
+pub IsPut-next : (cs : List Class) (os : List Object) (k before mid now : ℕ) → IsPut cs os k before mid → IsSomeAnd (slice_get os k) (λ o. RoseBy (put_reads cs o) mid now)
+    → IsPut cs os (k + 1) before now
+IsPut-next cs os k before mid now h r = by (slice_get os k) refl r
+  where
+    by : (x : Option Object) → slice_get os k ≡ x → IsSomeAnd x (λ o. RoseBy (put_reads cs o) mid now) → IsPut cs os (k + 1) before now
+    by None e r = absurd r
+    by (Some o) e r = IsPut-more cs os k before mid now o e h r
+
+-- a step alone
+pub step-only : (cs : List Class) (os : List Object) (k before now : ℕ) (S : Object → Type 0) → IsSomeAnd (slice_get os k) S → RoseBy (step_reads (slice_get os k)) before now
+    → IsSomeAnd (slice_get os k) (λ o. RoseBy (put_reads cs o) before now)
+step-only cs os k before now S is r = by (slice_get os k) is r
+  where
+    by : (x : Option Object) → IsSomeAnd x S → RoseBy (step_reads x) before now → IsSomeAnd x (λ o. RoseBy (put_reads cs o) before now)
+    by None is r = absurd is
+    by (Some o) is r = let a = r.never_falls in let b = r.most in record { never_falls = a; most = omega arith }
+
+-- a step, and then the values
+pub step-put : (g h : Graph) (table more : ℕ → ℕ) (k before mid now : ℕ) (seen : Seen) → h ≡ g → more ≡ table
+    → IsSomeAnd (slice_get g.objects k) (λ o. seen ≡ seen_of table o) → RoseBy (step_reads (slice_get g.objects k)) before mid
+    → ((o : Object) → IsIn o h.objects → seen ≡ seen_of more o → RoseBy (object_values h.classes o) mid now)
+    → IsSomeAnd (slice_get g.objects k) (λ o. RoseBy (put_reads g.classes o) before now)
+step-put g h table more k before mid now seen eg et is r values = by (slice_get g.objects k) refl is r
+  where
+    by : (x : Option Object) → slice_get g.objects k ≡ x → IsSomeAnd x (λ o. seen ≡ seen_of table o) → RoseBy (step_reads x) before mid
+        → IsSomeAnd x (λ o. RoseBy (put_reads g.classes o) before now)
+    by None e is r = absurd is
+    by (Some o) e is r =
+      let v = subst (λ (x : Graph). RoseBy (object_values x.classes o) mid now) eg
+          (values o (subst (λ (x : Graph). IsIn o x.objects) (sym eg) (IsIn-slice_get g.objects k o e)) (subst (λ (t : ℕ → ℕ). seen ≡ seen_of t o) (sym et) is)) in
+      let a = r.never_falls in
+      let b = r.most in
+      let c = v.never_falls in
+      let d = v.most in
+      record { never_falls = omega arith; most = omega arith }
+
+-- the object that was seen
+pub seen-there : (g h : Graph) (table more : ℕ → ℕ) (k : ℕ) (seen : Seen) → h ≡ g → more ≡ table → IsSomeAnd (slice_get g.objects k) (λ o. seen ≡ seen_of table o)
+    → (o : Object) × IsIn o h.objects × (seen ≡ seen_of more o)
+seen-there g h table more k seen eg et is = by (slice_get g.objects k) refl is
+  where
+    by : (x : Option Object) → slice_get g.objects k ≡ x → IsSomeAnd x (λ o. seen ≡ seen_of table o) → (o : Object) × IsIn o h.objects × (seen ≡ seen_of more o)
+    by None e is = absurd is
+    by (Some o) e is = (o, subst (λ (x : Graph). IsIn o x.objects) (sym eg) (IsIn-slice_get g.objects k o e), subst (λ (t : ℕ → ℕ). seen ≡ seen_of t o) (sym et) is)
+
+-- what holds of the object that was seen
+pub seen-put : (g h : Graph) (table more : ℕ → ℕ) (k : ℕ) (seen : Seen) (Q : Graph → (ℕ → ℕ) → Object → Type 0) → h ≡ g → more ≡ table
+    → IsSomeAnd (slice_get g.objects k) (λ o. seen ≡ seen_of table o) → ((o : Object) → IsIn o h.objects → seen ≡ seen_of more o → Q h more o)
+    → IsSomeAnd (slice_get g.objects k) (λ o. Q g table o)
+seen-put g h table more k seen Q eg et is put = by (slice_get g.objects k) refl is
+  where
+    by : (x : Option Object) → slice_get g.objects k ≡ x → IsSomeAnd x (λ o. seen ≡ seen_of table o) → IsSomeAnd x (λ o. Q g table o)
+    by None e is = absurd is
+    by (Some o) e is =
+      subst (λ (t : ℕ → ℕ). Q g t o) et (subst (λ (x : Graph). Q x more o) eg
+        (put o (subst (λ (x : Graph). IsIn o x.objects) (sym eg) (IsIn-slice_get g.objects k o e)) (subst (λ (t : ℕ → ℕ). seen ≡ seen_of t o) (sym et) is)))
+
+-- a fact over what the walk began with
+pub moved : (R : Graph → (ℕ → ℕ) → ℕ → Type 0) (g h : Graph) (table more : ℕ → ℕ) (k given : ℕ) → h ≡ g → more ≡ table → given ≡ k → R h more given → R g table k
+moved R g h table more k given eg et ek r =
+    subst (λ (n : ℕ). R g table n) ek (subst (λ (t : ℕ → ℕ). R g t given) et (subst (λ (x : Graph). R x more given) eg r))

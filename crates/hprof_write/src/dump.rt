@@ -168,7 +168,8 @@ fn put_segments<V: HeapView, F: Shelf>(
     put_roots(view, shelf, waiting, &mut current)?;
     put_classes(view.classes(), strings, shelf, waiting, &mut current)?;
     put_objects(alloc, view, strings, shelf, waiting, &mut current)?;
-    close(shelf, waiting, &mut current)
+    close(shelf, waiting, &mut current)?;
+    Ok(())
 }
 
 // The roots that aren't null.
@@ -254,7 +255,8 @@ fn put_classes<F: Shelf>(
     ensures never_falls { F.fault_count shelf.old ≤ F.fault_count shelf.new }
 {
     put_own_classes(classes, strings, shelf, waiting, current)?;
-    put_array_class_item(strings, shelf, waiting, current)
+    put_array_class_item(strings, shelf, waiting, current)?;
+    Ok(())
 }
 
 // The classes of the process, by number.

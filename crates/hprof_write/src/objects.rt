@@ -68,6 +68,7 @@ fn put_shape<V: HeapView>(
     ensures reads { (o : Object) → IsIn o (V.graph view.old).objects → (V.table view.old) o.number ≡ at.0 → o.shape ≡ shape
         → RoseBy (object_values (V.graph view.old).classes o) (V.read_count view.old) (V.read_count view.new) }
 {
+    let _all = view.classes().count();
     match shape {
         Shape::Instance(class) => put_instance(alloc, view, out, at, class),
         Shape::Array { kind, count } => {

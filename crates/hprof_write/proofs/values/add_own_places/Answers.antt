@@ -8,9 +8,6 @@ use Rattle.hprof_write.proofs.InstancePlaces.{length-own, own-within}
 use Rattle.hprof_write.proofs.ValuesAt.{own-more}
 use Rattle.hprof_write.proofs.values.add_own_places.Goals as goal
 
-pub loop-k-init : goal.loop-k-init
-loop-k-init c = ?
-
 pub loop-k-preserved : goal.loop-k-preserved
 loop-k-preserved c =
     let count = c.loop-k.invariant.count in

@@ -37,8 +37,8 @@ loop-places-preserved c =
       under = λ p there. inv.under p (parent-places cs c.loop-places.at c.in-Some.parent p c.count-all.ensures.formed c.in-Some.ensures there);
     }
 
-pub returns-in_ok-add_own_places-clause-within : goal.returns-in_ok-add_own_places-clause-within
-returns-in_ok-add_own_places-clause-within c =
+pub returns-in-None-clause-within : goal.returns-in-None-clause-within
+returns-in-None-clause-within c =
     let cs = c.args.classes.now in
     let inv = c.loop-places.invariant in
     within-more (λ (p : FieldAt). IsIn p (places_of cs (Instance c.args.class))) c.loop-places.places.items (own_places cs c.loop-places.at) c.add_own_places.new.places.items
