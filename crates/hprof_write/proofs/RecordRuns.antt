@@ -103,6 +103,6 @@ loads-all ss cs k =
       ap (λ l. l ++ load_record ss (length cs + 1) array_class_id array_name ∷ []) e ∙ append_assoc (loads_from ss 0 (take k cs)) more (load_record ss (length cs + 1) array_class_id array_name ∷ []))
 
 -- records behind records
-pub records-join : (bytes : List ℕ) (as bs : List TopRecord) → (bytes ++ bytes_of_records as) ++ bytes_of_records bs ≡ bytes ++ bytes_of_records (as ++ bs)
-records-join bytes as bs =
-    append_assoc bytes (bytes_of_records as) (bytes_of_records bs) ∙ ap (λ l. bytes ++ l) (sym (flat_map-append bytes_of_record as bs))
+pub records-join : (bytes : List ℕ) (rs more : List TopRecord) → (bytes ++ bytes_of_records rs) ++ bytes_of_records more ≡ bytes ++ bytes_of_records (rs ++ more)
+records-join bytes rs more =
+    append_assoc bytes (bytes_of_records rs) (bytes_of_records more) ∙ ap (λ l. bytes ++ l) (sym (flat_map-append bytes_of_record rs more))
