@@ -1,5 +1,5 @@
 -- Arrays: their heads, and then their elements.
-use Rattle.std.proofs.Common.{◌≡◌, ℕ, zero, suc, ◌+◌, Bool, true, false, List, [], ◌∷◌, ◌++◌, length, map, refl, sym, ap, ◌∙◌, append_assoc, subst}
+use Rattle.std.proofs.Common.{◌≡◌, ℕ, zero, suc, ◌+◌, Bool, true, false, List, [], ◌∷◌, ◌++◌, length, map, refl, sym, ap, ◌∙◌}
 use Rattle.std.proofs.lemmas.List.{append-nil, length-map}
 use Rattle.std.specs.List.{flat_map}
 use Rattle.class_layout.specs.declared.kind.FieldAt.{FieldAt}
@@ -16,7 +16,7 @@ use Rattle.hprof_records.specs.declared.sub_record.SubRecord.TheVariants as part
 use Rattle.hprof_records.specs.Fields.{field}
 use Rattle.hprof_records.specs.Parts.{bytes_of_part, word}
 use Rattle.hprof_write.specs.Classes.{array_class_id, class_id}
-use Rattle.hprof_write.specs.Objects.{array_head, array_head_if, array_part, bits_of, dumped_places, items_of, shape_part, value_bytes, values_bytes}
+use Rattle.hprof_write.specs.Objects.{array_head, array_head_if, array_part, bits_of, dumped_places, items_of, shape_part, values_bytes}
 use Rattle.hprof_write.proofs.RecordBytes.{three-appends, two-appends}
 use Rattle.hprof_write.proofs.ValuesAt.{length-elements}
 
@@ -50,7 +50,7 @@ array-by : (table : ℕ → ℕ) (o : Object) (kind : Kind) (count at : ℕ) (b 
 array-by table o kind count at true e is =
     let k = ref-kind kind e in
     let values : values_bytes table o (elements_from kind 0 count) ≡ flat_map word (items_of table o count) =
-        ap (λ (x : Kind). values_bytes table o (elements_from x 0 count)) k ∙ items-bytes table o 0 count in
+    ap (λ (x : Kind). values_bytes table o (elements_from x 0 count)) k ∙ items-bytes table o 0 count in
     let head : ℕ → ℕ → List ℕ = λ a n. field 1 0x22 ++ (word a ++ (word 0 ++ (word n ++ word array_class_id))) in
     ap (λ (l : List ℕ). head at count ++ l) values
     ∙ ap (λ (a : ℕ). head a count ++ flat_map word (items_of table o count)) (sym is)

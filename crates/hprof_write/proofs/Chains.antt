@@ -1,6 +1,5 @@
 -- Classes and their superclasses.
-use Rattle.std.proofs.Common.{◌≡◌, ℕ, zero, suc, ◌+◌, ◌<◌, ◌≤◌, List, [], ◌∷◌, ◌++◌, Option, Some, None, length, map, refl, sym, ap, ◌∙◌, subst, append_assoc, arith, inl, inr, ◌⊎◌, ⊎_elim}
-use Rattle.std.proofs.lemmas.Option.{slice_get_within}
+use Rattle.std.proofs.Common.{◌≡◌, ℕ, zero, suc, ◌<◌, List, [], ◌∷◌, ◌++◌, Option, Some, None, length, map, refl, sym, ap, ◌∙◌, subst, append_assoc, arith, inl, inr, ◌⊎◌, ⊎_elim}
 use Rattle.std.proofs.lemmas.List.{append-nil}
 use Rattle.std.specs.List.{slice_get}
 use Rattle.std.specs.Prelude.{unwrap_or}
@@ -9,7 +8,6 @@ use Rattle.class_layout.specs.declared.kind.FieldAt.{FieldAt}
 use Rattle.class_layout.specs.declared.kind.FieldDecl.{FieldDecl}
 use Rattle.class_layout.specs.Placing.{IsIn}
 use Rattle.class_layout.specs.ClassList.{Class, IsClassList, IsEarlier, layout_of}
-use Rattle.hprof_records.specs.declared.sub_record.SubRecord.{SubRecord}
 use Rattle.hprof_records.specs.declared.sub_record.SubRecord.TheVariants.{ClassDump}
 use Rattle.hprof_records.specs.Parts.{bytes_of_part}
 use Rattle.hprof_write.specs.Classes.{class_dump, class_id, field_entry, parent_id}
@@ -55,9 +53,9 @@ class-put ss cs k id parent size fields o d hid hsize hparent hfields h =
         → IsSomeAnd x (λ c. d ≡ o ++ bytes_of_part (class_dump ss cs k c))
     put None a b = absurd a
     put (Some c) a b =
-      let f : map (field_entry ss) fields ≡ map (field_entry ss) c.fields = ap (map (field_entry ss)) (sym b) in
-      let e : ClassDump id 0 parent 0 0 0 0 0 size [] [] (map (field_entry ss) fields) ≡ class_dump ss cs k c = cc in
-      h ∙ ap (λ p. o ++ bytes_of_part p) e
+        let f : map (field_entry ss) fields ≡ map (field_entry ss) c.fields = ap (map (field_entry ss)) (sym b) in
+        let e : ClassDump id 0 parent 0 0 0 0 0 size [] [] (map (field_entry ss) fields) ≡ class_dump ss cs k c = cc in
+        h ∙ ap (λ p. o ++ bytes_of_part p) e
 
 pub none-up : (cs : List Class) (n : ℕ) → places_up cs n None ≡ []
 none-up cs zero = refl
@@ -111,4 +109,3 @@ pub within-more : (Q : FieldAt → Type 0) (xs ys zs : List FieldAt) → zs ≡ 
     → (p : FieldAt) → IsIn p zs → Q p
 within-more Q xs ys zs e f g p h =
     ⊎_elim (λ a. f p a) (λ b. g p b) (IsIn-append xs ys p (subst (λ (l : List FieldAt). IsIn p l) e h))
-

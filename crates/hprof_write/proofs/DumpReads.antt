@@ -1,5 +1,5 @@
 -- The walk over the objects of a dump: the reads so far.
-use Rattle.std.proofs.Common.{◌≡◌, ℕ, zero, suc, ◌+◌, ◌*◌, ◌/◌, ◌≤◌, Bool, true, false, ◌||◌, List, [], ◌∷◌, ◌++◌, Option, Some, None, take, drop, sum_by, refl, sym, ap, ◌∙◌, subst, arith, add-one}
+use Rattle.std.proofs.Common.{◌≡◌, ℕ, ◌+◌, ◌*◌, ◌/◌, ◌≤◌, Bool, true, false, ◌||◌, List, [], ◌∷◌, ◌++◌, Option, Some, None, take, drop, sum_by, refl, sym, ap, ◌∙◌, subst, arith, add-one}
 use Rattle.std.proofs.lemmas.List.{take-append-drop}
 use Rattle.std.proofs.lemmas.List.Sums.{sum_by-cons}
 use Rattle.std.specs.List.{slice_get}
@@ -46,21 +46,21 @@ all-within cs (o ∷ os) = by (in_spot_window o.place) refl (all-within cs os)
         → (puts_reads cs os ≤ sum_by (object_reads cs) os) × (count_if (has_spots os) 3 + puts_reads cs os ≤ sum_by (object_reads cs) os)
         → (puts_reads cs (o ∷ os) ≤ sum_by (object_reads cs) (o ∷ os)) × (count_if (has_spots (o ∷ os)) 3 + puts_reads cs (o ∷ os) ≤ sum_by (object_reads cs) (o ∷ os))
     by true e (a, b) =
-      let words : ℕ = 4 * (size_of_object cs o / 4) in
-      let t : sum_by (object_reads cs) (o ∷ os) ≡ object_reads cs o + sum_by (object_reads cs) os = sum_by-cons (object_reads cs) o os in
-      let w : object_reads cs o ≡ words + 10 = ap (λ x. count_if x (words + 10)) e in
-      let v : object_values cs o ≡ words = ap (λ x. count_if x words) e in
-      let s : step_reads (Some o) ≡ 3 = ap (λ x. count_if x 3) e in
-      let h : count_if (has_spots (o ∷ os)) 3 ≡ 3 = ap (λ x. count_if (x || has_spots os) 3) e in
-      (omega arith, omega arith)
+        let words : ℕ = 4 * (size_of_object cs o / 4) in
+        let t : sum_by (object_reads cs) (o ∷ os) ≡ object_reads cs o + sum_by (object_reads cs) os = sum_by-cons (object_reads cs) o os in
+        let w : object_reads cs o ≡ words + 10 = ap (λ x. count_if x (words + 10)) e in
+        let v : object_values cs o ≡ words = ap (λ x. count_if x words) e in
+        let s : step_reads (Some o) ≡ 3 = ap (λ x. count_if x 3) e in
+        let h : count_if (has_spots (o ∷ os)) 3 ≡ 3 = ap (λ x. count_if (x || has_spots os) 3) e in
+        (omega arith, omega arith)
     by false e (a, b) =
-      let words : ℕ = 4 * (size_of_object cs o / 4) in
-      let t : sum_by (object_reads cs) (o ∷ os) ≡ object_reads cs o + sum_by (object_reads cs) os = sum_by-cons (object_reads cs) o os in
-      let w : object_reads cs o ≡ 0 = ap (λ x. count_if x (words + 10)) e in
-      let v : object_values cs o ≡ 0 = ap (λ x. count_if x words) e in
-      let s : step_reads (Some o) ≡ 0 = ap (λ x. count_if x 3) e in
-      let h : count_if (has_spots (o ∷ os)) 3 ≡ count_if (has_spots os) 3 = ap (λ x. count_if (x || has_spots os) 3) e in
-      (omega arith, omega arith)
+        let words : ℕ = 4 * (size_of_object cs o / 4) in
+        let t : sum_by (object_reads cs) (o ∷ os) ≡ object_reads cs o + sum_by (object_reads cs) os = sum_by-cons (object_reads cs) o os in
+        let w : object_reads cs o ≡ 0 = ap (λ x. count_if x (words + 10)) e in
+        let v : object_values cs o ≡ 0 = ap (λ x. count_if x words) e in
+        let s : step_reads (Some o) ≡ 0 = ap (λ x. count_if x 3) e in
+        let h : count_if (has_spots (o ∷ os)) 3 ≡ count_if (has_spots os) 3 = ap (λ x. count_if (x || has_spots os) 3) e in
+        (omega arith, omega arith)
 
 pub IsPut-within : (cs : List Class) (os : List Object) (k before now : ℕ) → IsPut cs os k before now → RoseBy (sum_by (object_reads cs) os) before now
 IsPut-within cs os k before now h =
@@ -80,7 +80,7 @@ pub IsPut-more : (cs : List Class) (os : List Object) (k before mid now : ℕ) (
     → IsPut cs os (k + 1) before now
 IsPut-more cs os k before mid now o e h r =
     let t : puts_reads cs (take (k + 1) os) ≡ puts_reads cs (take k os) + puts_reads cs (o ∷ []) =
-        ap (λ n. puts_reads cs (take n os)) (add-one k) ∙ ap (puts_reads cs) (take-more os k o e) ∙ puts_reads-append cs (take k os) (o ∷ []) in
+    ap (λ n. puts_reads cs (take n os)) (add-one k) ∙ ap (puts_reads cs) (take-more os k o e) ∙ puts_reads-append cs (take k os) (o ∷ []) in
     let a = h.rose.never_falls in
     let b = h.rose.most in
     let c = r.never_falls in
@@ -116,13 +116,13 @@ step-put g h table more k before mid now seen eg et is r values = by (slice_get 
         → IsSomeAnd x (λ o. RoseBy (put_reads g.classes o) before now)
     by None e is r = absurd is
     by (Some o) e is r =
-      let v = subst (λ (x : Graph). RoseBy (object_values x.classes o) mid now) eg
-          (values o (subst (λ (x : Graph). IsIn o x.objects) (sym eg) (IsIn-slice_get g.objects k o e)) (subst (λ (t : ℕ → ℕ). seen ≡ seen_of t o) (sym et) is)) in
-      let a = r.never_falls in
-      let b = r.most in
-      let c = v.never_falls in
-      let d = v.most in
-      record { never_falls = omega arith; most = omega arith }
+        let v = subst (λ (x : Graph). RoseBy (object_values x.classes o) mid now) eg
+        (values o (subst (λ (x : Graph). IsIn o x.objects) (sym eg) (IsIn-slice_get g.objects k o e)) (subst (λ (t : ℕ → ℕ). seen ≡ seen_of t o) (sym et) is)) in
+        let a = r.never_falls in
+        let b = r.most in
+        let c = v.never_falls in
+        let d = v.most in
+        record { never_falls = omega arith; most = omega arith }
 
 -- the object that was seen
 pub seen-there : (g h : Graph) (table more : ℕ → ℕ) (k : ℕ) (seen : Seen) → h ≡ g → more ≡ table → IsSomeAnd (slice_get g.objects k) (λ o. seen ≡ seen_of table o)
@@ -142,7 +142,7 @@ seen-put g h table more k seen Q eg et is put = by (slice_get g.objects k) refl 
     by : (x : Option Object) → slice_get g.objects k ≡ x → IsSomeAnd x (λ o. seen ≡ seen_of table o) → IsSomeAnd x (λ o. Q g table o)
     by None e is = absurd is
     by (Some o) e is =
-      subst (λ (t : ℕ → ℕ). Q g t o) et (subst (λ (x : Graph). Q x more o) eg
+        subst (λ (t : ℕ → ℕ). Q g t o) et (subst (λ (x : Graph). Q x more o) eg
         (put o (subst (λ (x : Graph). IsIn o x.objects) (sym eg) (IsIn-slice_get g.objects k o e)) (subst (λ (t : ℕ → ℕ). seen ≡ seen_of t o) (sym et) is)))
 
 -- a fact over what the walk began with

@@ -102,8 +102,8 @@ pub done-prefix : (start now : Shelved) (front : List ℕ) (f g : Filling) → D
     → AppendedPrefix start (front ++ bytes_of_records g.done) now
 done-prefix start now front f g m h =
     let e : (front ++ bytes_of_records f.done) ++ bytes_of_records m.more ≡ front ++ bytes_of_records g.done =
-        append_assoc front (bytes_of_records f.done) (bytes_of_records m.more)
-        ∙ ap (λ l. front ++ l) (sym (flat_map-append bytes_of_record f.done m.more) ∙ ap bytes_of_records (sym m.is)) in
+    append_assoc front (bytes_of_records f.done) (bytes_of_records m.more)
+    ∙ ap (λ l. front ++ l) (sym (flat_map-append bytes_of_record f.done m.more) ∙ ap bytes_of_records (sym m.is)) in
     subst (λ l. AppendedPrefix start l now) e (AppendedPrefix-more start now (front ++ bytes_of_records f.done) (bytes_of_records m.more) h)
 
 pub filled-stopped : (start now : Shelved) (front : List ℕ) (f g : Filling) (waiting : List ℕ) → DoneMore f g → IsFilled start front f waiting now

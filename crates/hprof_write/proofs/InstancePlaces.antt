@@ -41,8 +41,8 @@ parent-places cs k p q formed h there = at (slice_get cs k) (layout_of-parts cs 
         → IsIn q (places_of cs (Instance k))
     at None a b = absurd b
     at (Some c) a b =
-      let e : layout_of cs k ≡ lay_out (nat_eq k 1) (layout_of cs p) c.fields = a ∙ ap (λ (o : Option ℕ). lay_out (nat_eq k 1) (superclass_layout cs o) c.fields) b in
-      subst (λ (l : Laid). IsIn q (map (λ r. r.at) l.fields)) (sym e) (in-fields (nat_eq k 1) (layout_of cs p) (in_layout_order c.fields) q there)
+        let e : layout_of cs k ≡ lay_out (nat_eq k 1) (layout_of cs p) c.fields = a ∙ ap (λ (o : Option ℕ). lay_out (nat_eq k 1) (superclass_layout cs o) c.fields) b in
+        subst (λ (l : Laid). IsIn q (map (λ r. r.at) l.fields)) (sym e) (in-fields (nat_eq k 1) (layout_of cs p) (in_layout_order c.fields) q there)
 
 field-in : (laid : Laid) (place : FieldAt) (fs : List FieldDecl) (k : ℕ) → k < length fs → IfSome (slice_get fs k) (λ f. field_named laid f.name ≡ Some place)
     → IsIn place (map (λ p. p.at) laid.fields)
@@ -57,7 +57,7 @@ pub own-within : (cs : List Class) (class k : ℕ) (place : FieldAt) → k < len
     → (p : FieldAt) → IsIn p (take (k + 1) (own_places cs class)) → IsIn p (places_of cs (Instance class))
 own-within cs class k place within h before p there =
     let e : take (k + 1) (own_places cs class) ≡ take k (own_places cs class) ++ place ∷ [] =
-        ap (λ n. take n (own_places cs class)) (add-one k) ∙ take-more (own_places cs class) k place (own-place cs class k place within h) in
+    ap (λ n. take n (own_places cs class)) (add-one k) ∙ take-more (own_places cs class) k place (own-place cs class k place within h) in
     within-more (λ (q : FieldAt). IsIn q (places_of cs (Instance class))) (take k (own_places cs class)) (place ∷ []) (take (k + 1) (own_places cs class)) e before
     (λ q here. only q here) p there
   where
@@ -116,9 +116,9 @@ few-up cs (suc n) k formed within =
         → length (places_up cs (suc n) (Some k)) + 8 ≤ (layout_of cs k).end
     at None e a b up = absurd (none-beyond cs k within e)
     at (Some c) e a b up =
-      let q : parent_of cs k ≡ c.parent = ap (λ (o : Option (Option ℕ)). unwrap_or o None) (map-at (λ (d : Class). d.parent) cs k c e) in
-      let own : own_fields_of cs k ≡ c.fields = ap (λ (o : Option (List FieldDecl)). unwrap_or o []) (map-at (λ (d : Class). d.fields) cs k c e) in
-      few-step cs n k c.parent c.fields q b own a up
+        let q : parent_of cs k ≡ c.parent = ap (λ (o : Option (Option ℕ)). unwrap_or o None) (map-at (λ (d : Class). d.parent) cs k c e) in
+        let own : own_fields_of cs k ≡ c.fields = ap (λ (o : Option (List FieldDecl)). unwrap_or o []) (map-at (λ (d : Class). d.fields) cs k c e) in
+        few-step cs n k c.parent c.fields q b own a up
 
 -- an instance's values are no more than its bytes
 pub dumped-few : (cs : List Class) (class : ℕ) → IsClassList cs → class < length cs → length (dumped_places cs class) ≤ (layout_of cs class).end

@@ -2,7 +2,7 @@
 use Rattle.std.proofs.Common.{◌≡◌, ℕ, zero, suc, ◌+◌, ◌<◌, ◌≤◌, List, [], ◌∷◌, ◌++◌, Option, Some, None, length, take, drop, map, refl, sym, ap, ◌∙◌, subst, add-one, zero-add, arith}
 use Rattle.std.proofs.lemmas.List.{append-nil, map-append, take-append-drop, take_all}
 use Rattle.std.proofs.lemmas.Grind.{flat_map-append, fold-append}
-use Rattle.std.specs.List.{flat_map, fold, slice_get}
+use Rattle.std.specs.List.{fold, slice_get}
 use Rattle.std.specs.Option.{IsSomeAnd}
 use Rattle.ah_outside.specs.Outside.{Shelved}
 use Rattle.class_layout.specs.ClassList.{Class}
@@ -34,9 +34,9 @@ module _ {X : Type 0} (ss : List (List ℕ)) (item : X → Item) (xs : List X) (
   pub filled-last : (k : ℕ) → DoneMore (filled_at k) (fold (with_item ss) f (map item xs))
   filled-last k =
       let e : fold (with_item ss) (filled_at k) (map item (drop k xs)) ≡ fold (with_item ss) f (map item xs) =
-          sym (fold-append (with_item ss) f (map item (take k xs)) (map item (drop k xs)))
-          ∙ ap (fold (with_item ss) f) (sym (map-append item (take k xs) (drop k xs)))
-          ∙ ap (λ (l : List X). fold (with_item ss) f (map item l)) (take-append-drop k xs) in
+      sym (fold-append (with_item ss) f (map item (take k xs)) (map item (drop k xs)))
+      ∙ ap (fold (with_item ss) f) (sym (map-append item (take k xs) (drop k xs)))
+      ∙ ap (λ (l : List X). fold (with_item ss) f (map item l)) (take-append-drop k xs) in
       subst (λ (h : Filling). DoneMore (filled_at k) h) e (items-more ss (filled_at k) (map item (drop k xs)))
 
   -- no room was made for the next item
@@ -44,7 +44,7 @@ module _ {X : Type 0} (ss : List (List ℕ)) (item : X → Item) (xs : List X) (
       → AppendedPrefix start (front ++ bytes_of_records (fold (with_item ss) f (map item xs)).done) now
   next-stopped k x start now front e h =
       let m : DoneMore (with_item ss (filled_at k) (item x)) (fold (with_item ss) f (map item xs)) =
-          subst (λ (h : Filling). DoneMore h (fold (with_item ss) f (map item xs))) (filled-next k x e) (filled-last (k + 1)) in
+      subst (λ (h : Filling). DoneMore h (fold (with_item ss) f (map item xs))) (filled-next k x e) (filled-last (k + 1)) in
       room-prefix start now front ss (filled_at k) (fold (with_item ss) f (map item xs)) (item x) m h
 
   pub filled-all : (k : ℕ) → length xs ≤ k → filled_at k ≡ fold (with_item ss) f (map item xs)
@@ -92,8 +92,8 @@ class-in ss cs f k Q h = by (slice_get cs k) refl h
         → Q (filled_at ss Bare (class_dumps_from ss cs 0 cs) f (k + 1))
     by None e h = absurd h
     by (Some c) e h =
-      let there : slice_get (class_dumps_from ss cs 0 cs) k ≡ Some (class_dump ss cs k c) = dump-at ss cs 0 cs k c e ∙ ap (λ n. Some (class_dump ss cs n c)) (zero-add k) in
-      subst Q (sym (filled-next ss Bare (class_dumps_from ss cs 0 cs) f k (class_dump ss cs k c) there)) h
+        let there : slice_get (class_dumps_from ss cs 0 cs) k ≡ Some (class_dump ss cs k c) = dump-at ss cs 0 cs k c e ∙ ap (λ n. Some (class_dump ss cs n c)) (zero-add k) in
+        subst Q (sym (filled-next ss Bare (class_dumps_from ss cs 0 cs) f k (class_dump ss cs k c) there)) h
 
 -- the part of a root that holds an object
 pub root-item : (ss : List (List ℕ)) (table : ℕ → ℕ) (f : Filling) (h : Held) (at : ℕ) → (at ≡ 0 → ⊥) → at ≡ root_address table h
@@ -116,8 +116,8 @@ pub roots-next : (ss : List (List ℕ)) (table : ℕ → ℕ) (roots : List Root
     → fold (with_item ss) f (map Bare (root_parts table (take (k + 1) roots))) ≡ fold (with_item ss) (fold (with_item ss) f (map Bare (root_parts table (take k roots)))) (map Bare (held_parts table r.holds))
 roots-next ss table roots f k r e =
     let parts : root_parts table (take (k + 1) roots) ≡ root_parts table (take k roots) ++ held_parts table r.holds =
-        ap (λ n. root_parts table (take n roots)) (add-one k) ∙ ap (root_parts table) (take-more roots k r e)
-        ∙ flat_map-append (λ (q : Root). held_parts table q.holds) (take k roots) (r ∷ []) ∙ ap (λ l. root_parts table (take k roots) ++ l) (append-nil (held_parts table r.holds)) in
+    ap (λ n. root_parts table (take n roots)) (add-one k) ∙ ap (root_parts table) (take-more roots k r e)
+    ∙ flat_map-append (λ (q : Root). held_parts table q.holds) (take k roots) (r ∷ []) ∙ ap (λ l. root_parts table (take k roots) ++ l) (append-nil (held_parts table r.holds)) in
     ap (λ (l : List SubRecord). fold (with_item ss) f (map Bare l)) parts
     ∙ ap (fold (with_item ss) f) (map-append Bare (root_parts table (take k roots)) (held_parts table r.holds))
     ∙ fold-append (with_item ss) f (map Bare (root_parts table (take k roots))) (map Bare (held_parts table r.holds))
@@ -127,18 +127,18 @@ pub roots-last : (ss : List (List ℕ)) (table : ℕ → ℕ) (roots : List Root
 roots-last ss table roots f k =
     let before : Filling = fold (with_item ss) f (map Bare (root_parts table (take k roots))) in
     let parts : root_parts table (take k roots) ++ root_parts table (drop k roots) ≡ root_parts table roots =
-        sym (flat_map-append (λ (q : Root). held_parts table q.holds) (take k roots) (drop k roots)) ∙ ap (root_parts table) (take-append-drop k roots) in
+    sym (flat_map-append (λ (q : Root). held_parts table q.holds) (take k roots) (drop k roots)) ∙ ap (root_parts table) (take-append-drop k roots) in
     let e : fold (with_item ss) before (map Bare (root_parts table (drop k roots))) ≡ fold (with_item ss) f (map Bare (root_parts table roots)) =
-        sym (fold-append (with_item ss) f (map Bare (root_parts table (take k roots))) (map Bare (root_parts table (drop k roots))))
-        ∙ ap (fold (with_item ss) f) (sym (map-append Bare (root_parts table (take k roots)) (root_parts table (drop k roots))))
-        ∙ ap (λ (l : List SubRecord). fold (with_item ss) f (map Bare l)) parts in
+    sym (fold-append (with_item ss) f (map Bare (root_parts table (take k roots))) (map Bare (root_parts table (drop k roots))))
+    ∙ ap (fold (with_item ss) f) (sym (map-append Bare (root_parts table (take k roots)) (root_parts table (drop k roots))))
+    ∙ ap (λ (l : List SubRecord). fold (with_item ss) f (map Bare l)) parts in
     subst (λ (h : Filling). DoneMore before h) e (items-more ss before (map Bare (root_parts table (drop k roots))))
 
 -- what holds once the next root is in
 pub root-in : (ss : List (List ℕ)) (table : ℕ → ℕ) (roots : List Root) (f : Filling) (k at : ℕ) (Q : Filling → Type 0)
     → IsSomeAnd (slice_get roots k) (λ r. at ≡ 0 → r.holds ≡ held.Null) → IsSomeAnd (slice_get roots k) (λ r. at ≡ root_address table r.holds)
     → ((h : Held) → (at ≡ 0 → h ≡ held.Null) → at ≡ root_address table h
-      → Q (fold (with_item ss) (fold (with_item ss) f (map Bare (root_parts table (take k roots)))) (map Bare (held_parts table h))))
+    → Q (fold (with_item ss) (fold (with_item ss) f (map Bare (root_parts table (take k roots)))) (map Bare (held_parts table h))))
     → Q (fold (with_item ss) f (map Bare (root_parts table (take (k + 1) roots))))
 root-in ss table roots f k at Q null value put = by (slice_get roots k) refl null value
   where
@@ -152,7 +152,7 @@ pub classes-all : (ss : List (List ℕ)) (cs : List Class) (f : Filling)
     → with_item ss (fold (with_item ss) f (map Bare (class_dumps_from ss cs 0 cs))) (Bare array_class_dump) ≡ fold (with_item ss) f (map Bare (class_dumps ss cs))
 classes-all ss cs f =
     sym (ap (fold (with_item ss) f) (map-append Bare (class_dumps_from ss cs 0 cs) (array_class_dump ∷ []))
-      ∙ fold-append (with_item ss) f (map Bare (class_dumps_from ss cs 0 cs)) (Bare array_class_dump ∷ []))
+    ∙ fold-append (with_item ss) f (map Bare (class_dumps_from ss cs 0 cs)) (Bare array_class_dump ∷ []))
 
 pub classes-done : (ss : List (List ℕ)) (cs : List Class) (f : Filling)
     → DoneMore (fold (with_item ss) f (map Bare (class_dumps_from ss cs 0 cs))) (fold (with_item ss) f (map Bare (class_dumps ss cs)))

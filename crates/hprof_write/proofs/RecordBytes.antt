@@ -1,11 +1,11 @@
 -- The bytes of records, appended field by field.
-use Rattle.std.proofs.Common.{◌≡◌, ℕ, suc, ◌+◌, List, [], ◌∷◌, ◌++◌, length, refl, sym, ap, ◌∙◌, subst, append_assoc, arith}
+use Rattle.std.proofs.Common.{◌≡◌, ℕ, suc, ◌+◌, List, [], ◌∷◌, ◌++◌, length, sym, ap, ◌∙◌, append_assoc, arith}
 use Rattle.std.proofs.lemmas.List.{append-nil}
-use Rattle.std.specs.List.{concat, flat_map}
+use Rattle.std.specs.List.{flat_map}
 use Rattle.hprof_records.specs.Fields.{field}
 use Rattle.hprof_records.specs.Parts.{word}
 use Rattle.hprof_records.specs.Records.{bytes_of_record}
-use Rattle.hprof_records.specs.declared.top_record.TopRecord.TheVariants.{Text, LoadClass}
+use Rattle.hprof_records.specs.declared.top_record.TopRecord.TheVariants.{Text}
 
 -- two appends are one
 pub two-appends : (o p q a b : List ℕ) → a ≡ o ++ p → b ≡ a ++ q → b ≡ o ++ (p ++ q)

@@ -1,6 +1,6 @@
 -- Records that are put one after another.
-use Rattle.std.proofs.Common.{◌≡◌, ℕ, zero, suc, ◌+◌, ◌<◌, ◌≤◌, List, [], ◌∷◌, ◌++◌, Option, Some, None, length, take, drop, map, refl, zero-add, sym, ap, ◌∙◌, subst, append_assoc, add-one, arith}
-use Rattle.std.proofs.lemmas.List.{append-nil, take-append-drop}
+use Rattle.std.proofs.Common.{◌≡◌, ℕ, zero, suc, ◌+◌, List, [], ◌∷◌, ◌++◌, Option, Some, None, length, take, map, refl, zero-add, sym, ap, ◌∙◌, subst, append_assoc, add-one, arith}
+use Rattle.std.proofs.lemmas.List.{append-nil}
 use Rattle.std.proofs.lemmas.Grind.{flat_map-append}
 use Rattle.std.specs.List.{slice_get}
 use Rattle.std.specs.Option.{IsSomeAnd}
@@ -15,7 +15,6 @@ use Rattle.hprof_write.specs.Strings.{array_name, text_records}
 use Rattle.hprof_write.proofs.Appends.{AppendedBut-more, AppendedBut-stopped, AppendedPrefix-more}
 use Rattle.hprof_write.proofs.Chains.{at-map}
 use Rattle.hprof_write.proofs.Fillings.{records-more}
-use Rattle.hprof_write.proofs.TableLines.{take-more}
 
 -- nothing more
 pub records-none : (start now : Shelved) (bytes waiting : List ℕ) → AppendedBut start bytes waiting now → AppendedBut start (bytes ++ bytes_of_records []) waiting now
@@ -32,8 +31,8 @@ pub records-prefix : (start now : Shelved) (bytes : List ℕ) (rs more all : Lis
     → AppendedPrefix start (bytes ++ bytes_of_records rs) now → AppendedPrefix start (bytes ++ bytes_of_records all) now
 records-prefix start now bytes rs more all e h =
     let t : (bytes ++ bytes_of_records rs) ++ bytes_of_records more ≡ bytes ++ bytes_of_records all =
-        append_assoc bytes (bytes_of_records rs) (bytes_of_records more)
-        ∙ ap (λ l. bytes ++ l) (sym (flat_map-append bytes_of_record rs more) ∙ ap bytes_of_records (sym e)) in
+    append_assoc bytes (bytes_of_records rs) (bytes_of_records more)
+    ∙ ap (λ l. bytes ++ l) (sym (flat_map-append bytes_of_record rs more) ∙ ap bytes_of_records (sym e)) in
     subst (λ l. AppendedPrefix start l now) t (AppendedPrefix-more start now (bytes ++ bytes_of_records rs) (bytes_of_records more) h)
 
 -- nothing more was put
@@ -98,9 +97,10 @@ load-next ss cs k id name h e =
 -- the classes so far are the first ones of all that are loaded
 pub loads-all : (ss : List (List ℕ)) (cs : List Class) (k : ℕ) → (more : List TopRecord) × (load_records ss cs ≡ loads_from ss 0 (take k cs) ++ more)
 loads-all ss cs k =
-    let (more, e) = loads-split ss 0 cs k in
-    (more ++ load_record ss (length cs + 1) array_class_id array_name ∷ [],
-      ap (λ l. l ++ load_record ss (length cs + 1) array_class_id array_name ∷ []) e ∙ append_assoc (loads_from ss 0 (take k cs)) more (load_record ss (length cs + 1) array_class_id array_name ∷ []))
+    let (more, e) = loads-split ss 0 cs k in (
+      more ++ load_record ss (length cs + 1) array_class_id array_name ∷ [],
+      ap (λ l. l ++ load_record ss (length cs + 1) array_class_id array_name ∷ []) e ∙ append_assoc (loads_from ss 0 (take k cs)) more (load_record ss (length cs + 1) array_class_id array_name ∷ []),
+    )
 
 -- records behind records
 pub records-join : (bytes : List ℕ) (rs more : List TopRecord) → (bytes ++ bytes_of_records rs) ++ bytes_of_records more ≡ bytes ++ bytes_of_records (rs ++ more)

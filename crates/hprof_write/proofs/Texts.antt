@@ -22,13 +22,13 @@ texts-next cs k name fields now next hn hf before added =
         → next ≡ fold with_text [] (flat_map class_texts (take (k + 1) cs))
     at None e a b = absurd a
     at (Some c) e a b =
-      let names : List FieldDecl → List (List ℕ) = λ fs. map (λ (f : FieldDecl). f.name) fs in
-      let these : name ∷ names fields ≡ class_texts c = ap (λ (n : List ℕ). n ∷ names fields) (sym a) ∙ ap (λ (fs : List FieldDecl). c.name ∷ names fs) (sym b) in
-      let all : flat_map class_texts (take (k + 1) cs) ≡ flat_map class_texts (take k cs) ++ class_texts c =
-          ap (λ n. flat_map class_texts (take n cs)) (add-one k) ∙ ap (flat_map class_texts) (take-more cs k c e)
-          ∙ flat_map-append class_texts (take k cs) (c ∷ []) ∙ ap (λ l. flat_map class_texts (take k cs) ++ l) (append-nil (class_texts c)) in
-      added ∙ ap (λ (l : List (List ℕ)). fold with_text now l) these ∙ ap (λ (s : List (List ℕ)). fold with_text s (class_texts c)) before
-      ∙ sym (fold-append with_text [] (flat_map class_texts (take k cs)) (class_texts c)) ∙ ap (fold with_text []) (sym all)
+        let names : List FieldDecl → List (List ℕ) = λ fs. map (λ (f : FieldDecl). f.name) fs in
+        let these : name ∷ names fields ≡ class_texts c = ap (λ (n : List ℕ). n ∷ names fields) (sym a) ∙ ap (λ (fs : List FieldDecl). c.name ∷ names fs) (sym b) in
+        let all : flat_map class_texts (take (k + 1) cs) ≡ flat_map class_texts (take k cs) ++ class_texts c =
+        ap (λ n. flat_map class_texts (take n cs)) (add-one k) ∙ ap (flat_map class_texts) (take-more cs k c e)
+        ∙ flat_map-append class_texts (take k cs) (c ∷ []) ∙ ap (λ l. flat_map class_texts (take k cs) ++ l) (append-nil (class_texts c)) in
+        added ∙ ap (λ (l : List (List ℕ)). fold with_text now l) these ∙ ap (λ (s : List (List ℕ)). fold with_text s (class_texts c)) before
+        ∙ sym (fold-append with_text [] (flat_map class_texts (take k cs)) (class_texts c)) ∙ ap (fold with_text []) (sym all)
 
 -- the name that was made
 pub name-is : (o : Option (List ℕ)) (n t : List ℕ) → o ≡ Some n → IfSome o (λ m. m ≡ t) → n ≡ t
@@ -41,7 +41,7 @@ pub texts-last : (cs : List Class) (k : ℕ) (first s t u v : List (List ℕ)) (
 texts-last cs k first s t u v a b c d within hf hs ht hu hv ea eb ec ed =
     let all : first ≡ fold with_text [] (flat_map class_texts cs) = hf ∙ ap (λ l. fold with_text [] (flat_map class_texts l)) (take_all k cs within) in
     let s1 : s ≡ with_text (fold with_text [] (flat_map class_texts cs)) array_name =
-        hs ∙ ap (λ (n : List ℕ). with_text first n) ea ∙ ap (λ (l : List (List ℕ)). with_text l array_name) all in
+    hs ∙ ap (λ (n : List ℕ). with_text first n) ea ∙ ap (λ (l : List (List ℕ)). with_text l array_name) all in
     let t1 = ht ∙ ap (λ (n : List ℕ). with_text s n) eb ∙ ap (λ (l : List (List ℕ)). with_text l (codes "app")) s1 in
     let u1 = hu ∙ ap (λ (n : List ℕ). with_text t n) ec ∙ ap (λ (l : List (List ℕ)). with_text l (codes "image")) t1 in
     hv ∙ ap (λ (n : List ℕ). with_text u n) ed ∙ ap (λ (l : List (List ℕ)). with_text l (codes "zygote")) u1

@@ -1,9 +1,9 @@
 -- Values at places of an object.
-use Rattle.std.proofs.Common.{◌≡◌, ℕ, zero, suc, ◌+◌, ◌*◌, ◌<◌, ◌≤◌, Bool, true, false, get_or, List, [], ◌∷◌, ◌++◌, Option, Some, None, length, take, map, refl, sym, ap, ◌∙◌, subst, arith, append_assoc, inl, inr, add-one}
+use Rattle.std.proofs.Common.{◌≡◌, ℕ, zero, suc, ◌+◌, ◌*◌, ◌<◌, Bool, true, false, get_or, List, [], ◌∷◌, ◌++◌, Option, Some, length, take, map, refl, sym, ap, ◌∙◌, subst, arith, append_assoc, inl, inr, add-one}
 use Rattle.std.proofs.lemmas.List.{append-nil}
 use Rattle.std.proofs.lemmas.Grind.{flat_map-append}
 use Rattle.std.specs.List.{slice_get}
-use Rattle.std.specs.Option.{IfSome, IsSomeAnd}
+use Rattle.std.specs.Option.{IfSome}
 use Rattle.std.specs.Prelude.{unwrap_or}
 use Rattle.class_layout.specs.declared.kind.FieldAt.{FieldAt}
 use Rattle.class_layout.specs.declared.kind.FieldDecl.{FieldDecl}
@@ -13,7 +13,7 @@ use Rattle.class_layout.specs.Kinds.{first_element, kind_bytes}
 use Rattle.class_layout.specs.Layout.{field_named}
 use Rattle.class_layout.specs.Placing.{IsIn}
 use Rattle.heap_graph.specs.Graph.{Graph, Object}
-use Rattle.object_view.specs.Objects.{IsPlace, element, elements_from, places_of}
+use Rattle.object_view.specs.Objects.{element, elements_from, places_of}
 use Rattle.object_view.specs.Seen.{HasValue, RoseBy, count_if, value_in}
 use Rattle.hprof_write.specs.Objects.{HasValues, no_place, own_places, place_named, value_bytes, values_bytes}
 use Rattle.hprof_write.proofs.TableLines.{take-more}
@@ -44,8 +44,8 @@ pub values-more : (table : ℕ → ℕ) (o : Object) (places : List FieldAt) (k 
     → next ≡ first ++ values_bytes table o (take (suc k) places)
 values-more table o places k place first now next e h f =
     let t : values_bytes table o (take (suc k) places) ≡ values_bytes table o (take k places) ++ value_bytes place.kind (value_in table o place) =
-        ap (values_bytes table o) (take-more places k place e) ∙ flat_map-append (λ (p : FieldAt). value_bytes p.kind (value_in table o p)) (take k places) (place ∷ [])
-        ∙ ap (λ l. values_bytes table o (take k places) ++ l) (append-nil (value_bytes place.kind (value_in table o place))) in
+    ap (values_bytes table o) (take-more places k place e) ∙ flat_map-append (λ (p : FieldAt). value_bytes p.kind (value_in table o p)) (take k places) (place ∷ [])
+    ∙ ap (λ l. values_bytes table o (take k places) ++ l) (append-nil (value_bytes place.kind (value_in table o place))) in
     f ∙ ap (λ l. l ++ value_bytes place.kind (value_in table o place)) h
     ∙ append_assoc first (values_bytes table o (take k places)) (value_bytes place.kind (value_in table o place))
     ∙ ap (λ l. first ++ l) (sym t)

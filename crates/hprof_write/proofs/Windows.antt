@@ -1,8 +1,8 @@
 -- Objects in the image and zygote windows, and the reads of their values.
-use Rattle.std.proofs.Common.{◌≡◌, ℕ, ◌+◌, ◌*◌, ◌/◌, ◌%◌, ◌<◌, ◌≤◌, Bool, true, false, ◌||◌, ◌&&◌, List, [], ◌∷◌, filter, map, length, nat_le, nat_lt, refl, sym, ap, ◌∙◌, subst, arith, inl, inr, cond, ◌⊎◌, true≢false}
+use Rattle.std.proofs.Common.{◌≡◌, ℕ, ◌+◌, ◌*◌, ◌/◌, ◌≤◌, Bool, true, false, ◌||◌, ◌&&◌, List, [], ◌∷◌, filter, map, nat_le, nat_lt, refl, sym, ap, ◌∙◌, arith, inl, inr, cond, ◌⊎◌, true≢false}
 use Rattle.std.specs.List.{zip}
 use Rattle.model_numbers.specs.Numbers.{image_base, image_length, region_base, zygote_base, zygote_length}
-use Rattle.class_layout.specs.ClassList.{Class, IsClassList}
+use Rattle.class_layout.specs.ClassList.{Class}
 use Rattle.class_layout.specs.Placing.{IsIn}
 use Rattle.cow_pages.proofs.PlaceLemmas.{is_in_past}
 use Rattle.heap_graph.specs.declared.names.Place.{Place}
@@ -10,8 +10,8 @@ use Rattle.heap_graph.specs.declared.names.Place.TheVariants.{Image, Zygote, You
 use Rattle.heap_graph.specs.Graph.{Graph, Object, is_young, size_of_object}
 use Rattle.heap_graph.specs.Packing.{after, place, places_from, young_objects}
 use Rattle.heap_graph.specs.Sizes.{size_in, unrounded}
-use Rattle.heap_graph.specs.Table.{Fits, IsPackedAt, IsPlacedAt, in_spot_window, packing}
-use Rattle.object_view.specs.Seen.{IsShown, RoseBy, count_if, is_in_window}
+use Rattle.heap_graph.specs.Table.{Fits, IsPlacedAt, in_spot_window}
+use Rattle.object_view.specs.Seen.{RoseBy, count_if, is_in_window}
 use Rattle.object_view.proofs.Laid.{size-bounds}
 use Rattle.hprof_write.specs.Reads.{object_values}
 
@@ -45,14 +45,15 @@ window-place g table o fits there inside = by o.place refl (fits.placed o there)
   where
     far : region_base ≤ table o.number → ⊥
     far h = true≢false (sym inside ∙ beyond (table o.number) h)
+
     by : (at : Place) → o.place ≡ at → IsPlacedAt at (table o.number) → in_spot_window o.place ≡ true
     by (Image spot) e h = ap in_spot_window e
     by (Zygote spot) e h = ap in_spot_window e
     by Young e h =
-      let young : IsIn o (young_objects g) = in-filter (λ p. is_young p.place) g.objects o there (ap is_young e) in
-      let (q, i) = in-packing g.classes 0 (young_objects g) o young in
-      let (region, less, is) = fits.packed (o.number, q) i in
-      absurd (far (omega arith))
+        let young : IsIn o (young_objects g) = in-filter (λ p. is_young p.place) g.objects o there (ap is_young e) in
+        let (q, i) = in-packing g.classes 0 (young_objects g) o young in
+        let (region, less, is) = fits.packed (o.number, q) i in
+        absurd (far (omega arith))
     by Large e (k, less, is) = absurd (far (omega arith))
     by Promoted e (k, less, is) = absurd (far (omega arith))
 

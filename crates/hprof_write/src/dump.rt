@@ -183,7 +183,7 @@ fn put_roots<V: HeapView, F: Shelf>(
     ensures ok { OnOk result ((ss : List (List ℕ)) (start : Shelved) (front : List ℕ) (f : Filling) → IsFilled start front f waiting.old.items (F.shelved shelf.old)
         → IsCurrent f current.old.body.items current.old.objects current.old.heap
         → let filled = fold (with_item ss) f (map Bare (root_parts (V.table view.now) (V.graph view.now).roots)) in
-            IsFilled start front filled waiting.new.items (F.shelved shelf.new) × IsCurrent filled current.new.body.items current.new.objects current.new.heap) }
+        IsFilled start front filled waiting.new.items (F.shelved shelf.new) × IsCurrent filled current.new.body.items current.new.objects current.new.heap) }
     ensures failed { OnErr result ((ss : List (List ℕ)) (start : Shelved) (front : List ℕ) (f : Filling) → IsFilled start front f waiting.old.items (F.shelved shelf.old)
         → IsCurrent f current.old.body.items current.old.objects current.old.heap
         → AppendedPrefix start (front ++ bytes_of_records (fold (with_item ss) f (map Bare (root_parts (V.table view.now) (V.graph view.now).roots))).done) (F.shelved shelf.new)) }
@@ -209,7 +209,7 @@ fn put_root<F: Shelf>(
         → (at.0 ≡ 0 → held ≡ Held.Null) → at.0 ≡ root_address table held
         → IsFilled start front f waiting.old.items (F.shelved shelf.old) → IsCurrent f current.old.body.items current.old.objects current.old.heap
         → let filled = fold (with_item ss) f (map Bare (held_parts table held)) in
-            IsFilled start front filled waiting.new.items (F.shelved shelf.new) × IsCurrent filled current.new.body.items current.new.objects current.new.heap) }
+        IsFilled start front filled waiting.new.items (F.shelved shelf.new) × IsCurrent filled current.new.body.items current.new.objects current.new.heap) }
     ensures failed { OnErr result ((ss : List (List ℕ)) (table : ℕ → ℕ) (held : Held) (start : Shelved) (front : List ℕ) (f : Filling)
         → (at.0 ≡ 0 → held ≡ Held.Null) → at.0 ≡ root_address table held
         → IsFilled start front f waiting.old.items (F.shelved shelf.old) → IsCurrent f current.old.body.items current.old.objects current.old.heap
@@ -246,7 +246,7 @@ fn put_classes<F: Shelf>(
     ensures ok { OnOk result ((start : Shelved) (front : List ℕ) (f : Filling) → IsFilled start front f waiting.old.items (F.shelved shelf.old)
         → IsCurrent f current.old.body.items current.old.objects current.old.heap
         → let filled = fold (with_item strings.now.keys) f (map Bare (class_dumps strings.now.keys classes.now)) in
-            IsFilled start front filled waiting.new.items (F.shelved shelf.new) × IsCurrent filled current.new.body.items current.new.objects current.new.heap) }
+        IsFilled start front filled waiting.new.items (F.shelved shelf.new) × IsCurrent filled current.new.body.items current.new.objects current.new.heap) }
     ensures failed { OnErr result ((start : Shelved) (front : List ℕ) (f : Filling) → IsFilled start front f waiting.old.items (F.shelved shelf.old)
         → IsCurrent f current.old.body.items current.old.objects current.old.heap
         → AppendedPrefix start (front ++ bytes_of_records (fold (with_item strings.now.keys) f (map Bare (class_dumps strings.now.keys classes.now))).done) (F.shelved shelf.new)) }
@@ -271,7 +271,7 @@ fn put_own_classes<F: Shelf>(
     ensures ok { OnOk result ((start : Shelved) (front : List ℕ) (f : Filling) → IsFilled start front f waiting.old.items (F.shelved shelf.old)
         → IsCurrent f current.old.body.items current.old.objects current.old.heap
         → let filled = fold (with_item strings.now.keys) f (map Bare (class_dumps_from strings.now.keys classes.now 0 classes.now)) in
-            IsFilled start front filled waiting.new.items (F.shelved shelf.new) × IsCurrent filled current.new.body.items current.new.objects current.new.heap) }
+        IsFilled start front filled waiting.new.items (F.shelved shelf.new) × IsCurrent filled current.new.body.items current.new.objects current.new.heap) }
     ensures failed { OnErr result ((start : Shelved) (front : List ℕ) (f : Filling) → IsFilled start front f waiting.old.items (F.shelved shelf.old)
         → IsCurrent f current.old.body.items current.old.objects current.old.heap
         → AppendedPrefix start (front ++ bytes_of_records (fold (with_item strings.now.keys) f (map Bare (class_dumps_from strings.now.keys classes.now 0 classes.now))).done) (F.shelved shelf.new)) }
@@ -299,7 +299,7 @@ fn put_class_item<F: Shelf>(
     ensures ok { OnOk result ((start : Shelved) (front : List ℕ) (f : Filling) → IsFilled start front f waiting.old.items (F.shelved shelf.old)
         → IsCurrent f current.old.body.items current.old.objects current.old.heap
         → IsSomeAnd (slice_get classes.now class) (λ c. let filled = with_item strings.now.keys f (Bare (class_dump strings.now.keys classes.now class c)) in
-            IsFilled start front filled waiting.new.items (F.shelved shelf.new) × IsCurrent filled current.new.body.items current.new.objects current.new.heap)) }
+        IsFilled start front filled waiting.new.items (F.shelved shelf.new) × IsCurrent filled current.new.body.items current.new.objects current.new.heap)) }
     ensures failed { OnErr result ((start : Shelved) (front : List ℕ) (f : Filling) → IsFilled start front f waiting.old.items (F.shelved shelf.old)
         → IsCurrent f current.old.body.items current.old.objects current.old.heap
         → AppendedPrefix start (front ++ bytes_of_records (with_room f).done) (F.shelved shelf.new)) }
@@ -323,7 +323,7 @@ fn put_array_class_item<F: Shelf>(
     ensures ok { OnOk result ((start : Shelved) (front : List ℕ) (f : Filling) → IsFilled start front f waiting.old.items (F.shelved shelf.old)
         → IsCurrent f current.old.body.items current.old.objects current.old.heap
         → let filled = with_item strings.now.keys f (Bare array_class_dump) in
-            IsFilled start front filled waiting.new.items (F.shelved shelf.new) × IsCurrent filled current.new.body.items current.new.objects current.new.heap) }
+        IsFilled start front filled waiting.new.items (F.shelved shelf.new) × IsCurrent filled current.new.body.items current.new.objects current.new.heap) }
     ensures failed { OnErr result ((start : Shelved) (front : List ℕ) (f : Filling) → IsFilled start front f waiting.old.items (F.shelved shelf.old)
         → IsCurrent f current.old.body.items current.old.objects current.old.heap
         → AppendedPrefix start (front ++ bytes_of_records (with_item strings.now.keys f (Bare array_class_dump)).done) (F.shelved shelf.new)) }
@@ -349,7 +349,7 @@ fn put_objects<V: HeapView, F: Shelf>(
     ensures ok { OnOk result ((start : Shelved) (front : List ℕ) (f : Filling) → IsFilled start front f waiting.old.items (F.shelved shelf.old)
         → IsCurrent f current.old.body.items current.old.objects current.old.heap
         → let filled = fold (with_item strings.now.keys) f (map (object_item (V.graph view.old).classes (V.table view.old)) (V.graph view.old).objects) in
-            IsFilled start front filled waiting.new.items (F.shelved shelf.new) × IsCurrent filled current.new.body.items current.new.objects current.new.heap) }
+        IsFilled start front filled waiting.new.items (F.shelved shelf.new) × IsCurrent filled current.new.body.items current.new.objects current.new.heap) }
     ensures failed { OnErr result ((start : Shelved) (front : List ℕ) (f : Filling) → IsFilled start front f waiting.old.items (F.shelved shelf.old)
         → IsCurrent f current.old.body.items current.old.objects current.old.heap
         → AppendedPrefix start (front ++ bytes_of_records (fold (with_item strings.now.keys) f (map (object_item (V.graph view.old).classes (V.table view.old)) (V.graph view.old).objects)).done) (F.shelved shelf.new)) }
@@ -380,7 +380,7 @@ fn put_next<V: HeapView, F: Shelf>(
     ensures ok { OnOk result ((start : Shelved) (front : List ℕ) (f : Filling) → IsFilled start front f waiting.old.items (F.shelved shelf.old)
         → IsCurrent f current.old.body.items current.old.objects current.old.heap
         → IsSomeAnd (slice_get (V.graph view.old).objects (V.given view.old)) (λ o. let filled = with_item strings.now.keys f (object_item (V.graph view.old).classes (V.table view.old) o) in
-            IsFilled start front filled waiting.new.items (F.shelved shelf.new) × IsCurrent filled current.new.body.items current.new.objects current.new.heap)) }
+        IsFilled start front filled waiting.new.items (F.shelved shelf.new) × IsCurrent filled current.new.body.items current.new.objects current.new.heap)) }
     ensures failed { OnErr result ((start : Shelved) (front : List ℕ) (f : Filling) → IsFilled start front f waiting.old.items (F.shelved shelf.old)
         → IsCurrent f current.old.body.items current.old.objects current.old.heap
         → AppendedPrefix start (front ++ bytes_of_records (with_room f).done) (F.shelved shelf.new)) }

@@ -35,16 +35,13 @@ pub(crate) fn put_object<V: HeapView>(
     ensures ok { OnOk result ((o : Object) (f : Filling) → IsIn o (V.graph view.old).objects → seen.now ≡ seen_of (V.table view.old) o
         → IsCurrent f current.old.body.items current.old.objects current.old.heap
         → IsCurrent (with_object (with_heap strings.now.keys (heap_of o.place) f) (object_part (V.graph view.old).classes (V.table view.old) o))
-            current.new.body.items current.new.objects current.new.heap) }
+        current.new.body.items current.new.objects current.new.heap) }
     ensures given { V.given view.new ≡ V.given view.old }
     ensures same { V.same view.old view.new }
     ensures reads { (o : Object) → IsIn o (V.graph view.old).objects → seen.now ≡ seen_of (V.table view.old) o
         → RoseBy (object_values (V.graph view.old).classes o) (V.read_count view.old) (V.read_count view.new) }
 {
-    let objects = current
-        .objects
-        .checked_add(1)
-        .ok_or(AllocError)?;
+    let objects = current.objects.checked_add(1).ok_or(AllocError)?;
     current.put_heap(strings, seen.heap)?;
     put_shape(alloc, view, &mut current.body, seen.at, seen.shape)?;
     current.objects = objects;

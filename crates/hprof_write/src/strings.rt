@@ -12,11 +12,7 @@ pub(crate) fn strings_of(alloc: Global, classes: &Classes) -> Result<IndexSet<Na
 {
     let mut strings = IndexSet::new(alloc);
     for class in 0..classes.count() {
-        add_class(
-            &mut strings,
-            classes.name(class),
-            classes.own_fields(class),
-        )?;
+        add_class(&mut strings, classes.name(class), classes.own_fields(class))?;
     }
     add_text(&mut strings, Name::of(b"java.lang.Object[]").unwrap())?;
     add_text(&mut strings, Name::of(b"app").unwrap())?;

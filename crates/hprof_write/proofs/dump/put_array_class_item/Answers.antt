@@ -14,15 +14,17 @@ returns-in_err-put_array_class-clause-failed g c =
     let ss = c.args.strings.now.keys in
     let now = g.F.Shelf.shelved c.make_room.new.shelf in
     let P : Type 0 = (start : Shelved) (front : List ℕ) (f : Filling) → IsFilled start front f c.args.waiting.now.items (g.F.Shelf.shelved c.args.shelf.now)
-        → IsCurrent f c.args.current.now.body.items c.args.current.now.objects c.args.current.now.heap
-        → AppendedPrefix start (front ++ bytes_of_records (with_item ss f (Bare array_class_dump)).done) now in
+    → IsCurrent f c.args.current.now.body.items c.args.current.now.objects c.args.current.now.heap
+    → AppendedPrefix start (front ++ bytes_of_records (with_item ss f (Bare array_class_dump)).done) now in
     on_err-always P c.from_residual-in_err-put_array_class.result
     (λ start front f filled cur.
-      AppendedBut-stopped start now (front ++ bytes_of_records (with_room f).done) c.make_room.new.waiting.items (c.in_ok-make_room.ensures.ok start front f filled cur).0)
+    AppendedBut-stopped start now (front ++ bytes_of_records (with_room f).done) c.make_room.new.waiting.items (c.in_ok-make_room.ensures.ok start front f filled cur).0)
 
 pub returns-clause-ok : goal.returns-clause-ok
 returns-clause-ok g c =
     λ start front f filled cur.
-    let room = c.in_ok-make_room.ensures.ok start front f filled cur in
-    (room.0, part-put (with_room f) array_class_dump c.make_room.new.current.body.items c.put_array_class.new.out.items c.make_room.new.current.objects c.make_room.new.current.heap
-      c.in_ok-put_array_class.ensures room.1)
+    let room = c.in_ok-make_room.ensures.ok start front f filled cur in (
+      room.0,
+      part-put (with_room f) array_class_dump c.make_room.new.current.body.items c.put_array_class.new.out.items c.make_room.new.current.objects c.make_room.new.current.heap
+          c.in_ok-put_array_class.ensures room.1,
+    )

@@ -17,11 +17,11 @@ pub returns-in_err-put_class-clause-failed : goal.returns-in_err-put_class-claus
 returns-in_err-put_class-clause-failed g c =
     let now = g.F.Shelf.shelved c.make_room.new.shelf in
     let P : Type 0 = (start : Shelved) (front : List ℕ) (f : Filling) → IsFilled start front f c.args.waiting.now.items (g.F.Shelf.shelved c.args.shelf.now)
-        → IsCurrent f c.args.current.now.body.items c.args.current.now.objects c.args.current.now.heap
-        → AppendedPrefix start (front ++ bytes_of_records (with_room f).done) now in
+    → IsCurrent f c.args.current.now.body.items c.args.current.now.objects c.args.current.now.heap
+    → AppendedPrefix start (front ++ bytes_of_records (with_room f).done) now in
     on_err-always P c.from_residual-in_err-put_class.result
     (λ start front f filled cur.
-      AppendedBut-stopped start now (front ++ bytes_of_records (with_room f).done) c.make_room.new.waiting.items (c.in_ok-make_room.ensures.ok start front f filled cur).0)
+    AppendedBut-stopped start now (front ++ bytes_of_records (with_room f).done) c.make_room.new.waiting.items (c.in_ok-make_room.ensures.ok start front f filled cur).0)
 
 pub returns-clause-ok : goal.returns-clause-ok
 returns-clause-ok g c =
@@ -34,7 +34,7 @@ returns-clause-ok g c =
     let room = c.in_ok-make_room.ensures.ok start front f filled cur in
     let Put : Class → Type 0 = λ x. next ≡ body ++ bytes_of_part (class_dump ss cs k x) in
     let Is : Class → Type 0 = λ x. IsFilled start front (with_item ss f (Bare (class_dump ss cs k x))) c.make_room.new.waiting.items (g.F.Shelf.shelved c.make_room.new.shelf)
-        × IsCurrent (with_item ss f (Bare (class_dump ss cs k x))) next c.make_room.new.current.objects c.make_room.new.current.heap in
+    × IsCurrent (with_item ss f (Bare (class_dump ss cs k x))) next c.make_room.new.current.objects c.make_room.new.current.heap in
     some-and-is Put Is (slice_get cs k)
     (λ x put. (room.0, part-put (with_room f) (class_dump ss cs k x) body next c.make_room.new.current.objects c.make_room.new.current.heap put room.1))
     c.in_ok-put_class.ensures

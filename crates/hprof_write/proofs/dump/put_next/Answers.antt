@@ -41,11 +41,11 @@ pub returns-in_err-put_object-clause-failed : goal.returns-in_err-put_object-cla
 returns-in_err-put_object-clause-failed g c =
     let now = g.F.Shelf.shelved c.make_room.new.shelf in
     let P : Type 0 = (start : Shelved) (front : List ℕ) (f : Filling) → IsFilled start front f c.args.waiting.now.items (g.F.Shelf.shelved c.args.shelf.now)
-        → IsCurrent f c.args.current.now.body.items c.args.current.now.objects c.args.current.now.heap
-        → AppendedPrefix start (front ++ bytes_of_records (with_room f).done) now in
+    → IsCurrent f c.args.current.now.body.items c.args.current.now.objects c.args.current.now.heap
+    → AppendedPrefix start (front ++ bytes_of_records (with_room f).done) now in
     on_err-always P c.from_residual-in_err-put_object.result
     (λ start front f filled cur.
-      AppendedBut-stopped start now (front ++ bytes_of_records (with_room f).done) c.make_room.new.waiting.items (c.in_ok-make_room.ensures.ok start front f filled cur).0)
+    AppendedBut-stopped start now (front ++ bytes_of_records (with_room f).done) c.make_room.new.waiting.items (c.in_ok-make_room.ensures.ok start front f filled cur).0)
 
 pub returns-clause-reads : goal.returns-clause-reads
 returns-clause-reads g c =
@@ -66,10 +66,11 @@ returns-clause-ok g c =
     let waiting = c.make_room.new.waiting.items in
     let room = c.in_ok-make_room.ensures.ok start front f filled cur in
     let Q : Graph → (ℕ → ℕ) → Object → Type 0 = λ x t o. IsFilled start front (with_item ss f (object_item x.classes t o)) waiting now
-        × IsCurrent (with_item ss f (object_item x.classes t o)) c.put_object.new.current.body.items c.put_object.new.current.objects c.put_object.new.current.heap in
+    × IsCurrent (with_item ss f (object_item x.classes t o)) c.put_object.new.current.body.items c.put_object.new.current.objects c.put_object.new.current.heap in
     seen-put (g.V.HeapView.graph first) (g.V.HeapView.graph view) (g.V.HeapView.table first) (g.V.HeapView.table view) (g.V.HeapView.given first) c.next_seen-seen.result Q
     (g.met.V.HeapView.same_graph first view c.next_seen-seen.ensures.same) (g.met.V.HeapView.same_table first view c.next_seen-seen.ensures.same) c.next_seen-seen.ensures.seen
-    (λ o there is.
-      (subst (λ (rs : List TopRecord). AppendedBut start (front ++ bytes_of_records rs) waiting now)
-        (sym (item-done ss f (object_item (g.V.HeapView.graph view).classes (g.V.HeapView.table view) o))) room.0,
-        c.in_ok-put_object.ensures.ok o (with_room f) there is room.1))
+    (λ o there is. (
+      subst (λ (rs : List TopRecord). AppendedBut start (front ++ bytes_of_records rs) waiting now)
+          (sym (item-done ss f (object_item (g.V.HeapView.graph view).classes (g.V.HeapView.table view) o))) room.0,
+      c.in_ok-put_object.ensures.ok o (with_room f) there is room.1,
+    ))

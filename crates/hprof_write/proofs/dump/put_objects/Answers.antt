@@ -53,17 +53,17 @@ loop-k-preserved g c =
       given = c.put_next.ensures.given ∙ ap (λ n. n + 1) inv.given;
       same = g.met.V.HeapView.same_as_same first view next inv.same c.put_next.ensures.same;
       put = λ start front f filled cur.
-        let before = inv.put start front f filled cur in
-        let Q : Filling → Type 0 = λ x. IsFilled start front x c.put_next.new.waiting.items now
-            × IsCurrent x c.put_next.new.current.body.items c.put_next.new.current.objects c.put_next.new.current.heap in
-        let R : Graph → (ℕ → ℕ) → ℕ → Type 0 = λ x t n. IsSomeAnd (slice_get x.objects n) (λ o. Q (with_item ss (filled_at ss item graph.objects f k) (object_item x.classes t o))) in
-        next-in ss item graph.objects f k Q
-        (moved R graph (g.V.HeapView.graph view) table (g.V.HeapView.table view) k (g.V.HeapView.given view) eg et inv.given
+          let before = inv.put start front f filled cur in
+          let Q : Filling → Type 0 = λ x. IsFilled start front x c.put_next.new.waiting.items now
+          × IsCurrent x c.put_next.new.current.body.items c.put_next.new.current.objects c.put_next.new.current.heap in
+          let R : Graph → (ℕ → ℕ) → ℕ → Type 0 = λ x t n. IsSomeAnd (slice_get x.objects n) (λ o. Q (with_item ss (filled_at ss item graph.objects f k) (object_item x.classes t o))) in
+          next-in ss item graph.objects f k Q
+          (moved R graph (g.V.HeapView.graph view) table (g.V.HeapView.table view) k (g.V.HeapView.given view) eg et inv.given
           (c.in_ok-put_next.ensures.ok start front (filled_at ss item graph.objects f k) before.0 before.1));
       unfinished = c.in_ok-put_next.ensures.unfinished;
       never_falls = let a = inv.never_falls in let b = c.put_next.ensures.never_falls in omega arith;
       reads = more-reads graph (g.V.HeapView.graph view) table (g.V.HeapView.table view) k (g.V.HeapView.given view)
-        (g.V.HeapView.read_count first) (g.V.HeapView.read_count view) (g.V.HeapView.read_count next) eg et inv.given inv.reads c.put_next.ensures.reads;
+          (g.V.HeapView.read_count first) (g.V.HeapView.read_count view) (g.V.HeapView.read_count next) eg et inv.given inv.reads c.put_next.ensures.reads;
     }
 
 pub returns-in_err-put_next-clause-failed : goal.returns-in_err-put_next-clause-failed
@@ -78,13 +78,13 @@ returns-in_err-put_next-clause-failed g c =
     let count = inv.count in
     let within : k < length graph.objects = omega arith in
     let P : Type 0 = (start : Shelved) (front : List ℕ) (f : Filling) → IsFilled start front f c.args.waiting.now.items (g.F.Shelf.shelved c.args.shelf.now)
-        → IsCurrent f c.args.current.now.body.items c.args.current.now.objects c.args.current.now.heap
-        → AppendedPrefix start (front ++ bytes_of_records (fold (with_item ss) f (map item graph.objects)).done) now in
+    → IsCurrent f c.args.current.now.body.items c.args.current.now.objects c.args.current.now.heap
+    → AppendedPrefix start (front ++ bytes_of_records (fold (with_item ss) f (map item graph.objects)).done) now in
     on_err-always P c.from_residual.result
     (λ start front f filled cur.
-      let before = inv.put start front f filled cur in
-      next-out ss item graph.objects f k start now front within
-      (c.in_err-put_next.ensures.failed start front (filled_at ss item graph.objects f k) before.0 before.1))
+    let before = inv.put start front f filled cur in
+    next-out ss item graph.objects f k start now front within
+    (c.in_err-put_next.ensures.failed start front (filled_at ss item graph.objects f k) before.0 before.1))
 
 pub returns-in_err-put_next-clause-reads : goal.returns-in_err-put_next-clause-reads
 returns-in_err-put_next-clause-reads g c =
@@ -95,8 +95,8 @@ returns-in_err-put_next-clause-reads g c =
     let k = c.loop-k._k in
     let graph = g.V.HeapView.graph first in
     let put = more-reads graph (g.V.HeapView.graph view) (g.V.HeapView.table first) (g.V.HeapView.table view) k (g.V.HeapView.given view)
-        (g.V.HeapView.read_count first) (g.V.HeapView.read_count view) (g.V.HeapView.read_count next)
-        (g.met.V.HeapView.same_graph first view inv.same) (g.met.V.HeapView.same_table first view inv.same) inv.given inv.reads c.put_next.ensures.reads in
+    (g.V.HeapView.read_count first) (g.V.HeapView.read_count view) (g.V.HeapView.read_count next)
+    (g.met.V.HeapView.same_graph first view inv.same) (g.met.V.HeapView.same_table first view inv.same) inv.given inv.reads c.put_next.ensures.reads in
     IsPut-within graph.classes graph.objects (k + 1) (g.V.HeapView.read_count first) (g.V.HeapView.read_count next) put
 
 pub returns-clause-ok : goal.returns-clause-ok
@@ -110,7 +110,7 @@ returns-clause-ok g c =
     let count = c.loop-k.invariant.count in
     let within : length graph.objects ≤ k = omega arith in
     let Q : Filling → Type 0 = λ x. IsFilled start front x c.loop-k.waiting.items (g.F.Shelf.shelved c.loop-k.shelf)
-        × IsCurrent x c.loop-k.current.body.items c.loop-k.current.objects c.loop-k.current.heap in
+    × IsCurrent x c.loop-k.current.body.items c.loop-k.current.objects c.loop-k.current.heap in
     subst Q (filled-all ss item graph.objects f k within) (c.loop-k.invariant.put start front f filled cur)
 
 pub returns-clause-reads : goal.returns-clause-reads

@@ -1,4 +1,4 @@
-use Rattle.std.proofs.Common.{◌≡◌, ◌∙◌, ℕ, List, ◌++◌, [], map, sym, subst, ap}
+use Rattle.std.proofs.Common.{◌≡◌, ℕ, List, ◌++◌, [], map, subst, ap}
 use Rattle.std.specs.List.{fold}
 use Rattle.ah_outside.specs.Outside.{Shelved}
 use Rattle.class_layout.specs.ClassList.{Class}
@@ -56,12 +56,12 @@ returns-in_err-put_roots-clause-failed g c =
     let old = g.F.Shelf.shelved c.args.shelf.now in
     let now = g.F.Shelf.shelved c.put_roots.new.shelf in
     let P : Type 0 = (start : Shelved) (bytes : List ℕ) → AppendedBut start bytes c.args.waiting.now.items old
-        → AppendedPrefix start (bytes ++ bytes_of_records (segments ss (items ss graph table))) now in
+    → AppendedPrefix start (bytes ++ bytes_of_records (segments ss (items ss graph table))) now in
     on_err-always P c.from_residual.result
     (λ start bytes but.
-      let filled = records-none start old bytes c.args.waiting.now.items but in
-      stopped ss graph table (with_roots ss graph table) start now bytes (after-roots ss graph table)
-      (c.in_err-put_roots.ensures.failed ss start bytes (begun []) filled (c.new-current.ensures [])))
+    let filled = records-none start old bytes c.args.waiting.now.items but in
+    stopped ss graph table (with_roots ss graph table) start now bytes (after-roots ss graph table)
+    (c.in_err-put_roots.ensures.failed ss start bytes (begun []) filled (c.new-current.ensures [])))
 
 pub returns-in_err-put_classes-clause-failed : goal.returns-in_err-put_classes-clause-failed
 returns-in_err-put_classes-clause-failed g c =
@@ -71,14 +71,14 @@ returns-in_err-put_classes-clause-failed g c =
     let old = g.F.Shelf.shelved c.args.shelf.now in
     let now = g.F.Shelf.shelved c.put_classes.new.shelf in
     let P : Type 0 = (start : Shelved) (bytes : List ℕ) → AppendedBut start bytes c.args.waiting.now.items old
-        → AppendedPrefix start (bytes ++ bytes_of_records (segments ss (items ss graph table))) now in
+    → AppendedPrefix start (bytes ++ bytes_of_records (segments ss (items ss graph table))) now in
     on_err-always P c.from_residual-in_err-put_classes.result
     (λ start bytes but.
-      let filled = records-none start old bytes c.args.waiting.now.items but in
-      let roots = c.in_ok-put_roots.ensures.ok ss start bytes (begun []) filled (c.new-current.ensures []) in
-      stopped ss graph table (with_classes ss graph table graph.classes) start now bytes (after-classes ss graph table)
-      (subst (λ (cs : List Class). AppendedPrefix start (bytes ++ bytes_of_records (with_classes ss graph table cs).done) now) c.classes.ensures.value
-        (c.in_err-put_classes.ensures.failed start bytes (with_roots ss graph table) roots.0 roots.1)))
+    let filled = records-none start old bytes c.args.waiting.now.items but in
+    let roots = c.in_ok-put_roots.ensures.ok ss start bytes (begun []) filled (c.new-current.ensures []) in
+    stopped ss graph table (with_classes ss graph table graph.classes) start now bytes (after-classes ss graph table)
+    (subst (λ (cs : List Class). AppendedPrefix start (bytes ++ bytes_of_records (with_classes ss graph table cs).done) now) c.classes.ensures.value
+    (c.in_err-put_classes.ensures.failed start bytes (with_roots ss graph table) roots.0 roots.1)))
 
 pub returns-in_err-put_objects-clause-failed : goal.returns-in_err-put_objects-clause-failed
 returns-in_err-put_objects-clause-failed g c =
@@ -88,16 +88,16 @@ returns-in_err-put_objects-clause-failed g c =
     let old = g.F.Shelf.shelved c.args.shelf.now in
     let now = g.F.Shelf.shelved c.put_objects.new.shelf in
     let P : Type 0 = (start : Shelved) (bytes : List ℕ) → AppendedBut start bytes c.args.waiting.now.items old
-        → AppendedPrefix start (bytes ++ bytes_of_records (segments ss (items ss graph table))) now in
+    → AppendedPrefix start (bytes ++ bytes_of_records (segments ss (items ss graph table))) now in
     on_err-always P c.from_residual-in_err-put_objects.result
     (λ start bytes but.
-      let filled = records-none start old bytes c.args.waiting.now.items but in
-      let roots = c.in_ok-put_roots.ensures.ok ss start bytes (begun []) filled (c.new-current.ensures []) in
-      let Q : List Class → Type 0 = λ cs. IsFilled start bytes (with_classes ss graph table cs) c.put_classes.new.waiting.items (g.F.Shelf.shelved c.put_classes.new.shelf)
-          × IsCurrent (with_classes ss graph table cs) c.put_classes.new.current.body.items c.put_classes.new.current.objects c.put_classes.new.current.heap in
-      let classes = subst Q c.classes.ensures.value (c.in_ok-put_classes.ensures.ok start bytes (with_roots ss graph table) roots.0 roots.1) in
-      stopped ss graph table (with_objects ss graph table) start now bytes (closed-more (with_objects ss graph table))
-      (c.in_err-put_objects.ensures.failed start bytes (with_classes ss graph table graph.classes) classes.0 classes.1))
+    let filled = records-none start old bytes c.args.waiting.now.items but in
+    let roots = c.in_ok-put_roots.ensures.ok ss start bytes (begun []) filled (c.new-current.ensures []) in
+    let Q : List Class → Type 0 = λ cs. IsFilled start bytes (with_classes ss graph table cs) c.put_classes.new.waiting.items (g.F.Shelf.shelved c.put_classes.new.shelf)
+    × IsCurrent (with_classes ss graph table cs) c.put_classes.new.current.body.items c.put_classes.new.current.objects c.put_classes.new.current.heap in
+    let classes = subst Q c.classes.ensures.value (c.in_ok-put_classes.ensures.ok start bytes (with_roots ss graph table) roots.0 roots.1) in
+    stopped ss graph table (with_objects ss graph table) start now bytes (closed-more (with_objects ss graph table))
+    (c.in_err-put_objects.ensures.failed start bytes (with_classes ss graph table graph.classes) classes.0 classes.1))
 
 pub returns-in_err-close-clause-failed : goal.returns-in_err-close-clause-failed
 returns-in_err-close-clause-failed g c =
@@ -107,17 +107,17 @@ returns-in_err-close-clause-failed g c =
     let old = g.F.Shelf.shelved c.args.shelf.now in
     let now = g.F.Shelf.shelved c.close.new.shelf in
     let P : Type 0 = (start : Shelved) (bytes : List ℕ) → AppendedBut start bytes c.args.waiting.now.items old
-        → AppendedPrefix start (bytes ++ bytes_of_records (segments ss (items ss graph table))) now in
+    → AppendedPrefix start (bytes ++ bytes_of_records (segments ss (items ss graph table))) now in
     on_err-always P c.from_residual-in_err-close.result
     (λ start bytes but.
-      let filled = records-none start old bytes c.args.waiting.now.items but in
-      let roots = c.in_ok-put_roots.ensures.ok ss start bytes (begun []) filled (c.new-current.ensures []) in
-      let Q : List Class → Type 0 = λ cs. IsFilled start bytes (with_classes ss graph table cs) c.put_classes.new.waiting.items (g.F.Shelf.shelved c.put_classes.new.shelf)
-          × IsCurrent (with_classes ss graph table cs) c.put_classes.new.current.body.items c.put_classes.new.current.objects c.put_classes.new.current.heap in
-      let classes = subst Q c.classes.ensures.value (c.in_ok-put_classes.ensures.ok start bytes (with_roots ss graph table) roots.0 roots.1) in
-      let objects = c.in_ok-put_objects.ensures.ok start bytes (with_classes ss graph table graph.classes) classes.0 classes.1 in
-      subst (λ (rs : List TopRecord). AppendedPrefix start (bytes ++ bytes_of_records rs) now) (all-closed ss graph table)
-      (c.in_err-close.ensures.failed start bytes (with_objects ss graph table) objects.0 objects.1))
+    let filled = records-none start old bytes c.args.waiting.now.items but in
+    let roots = c.in_ok-put_roots.ensures.ok ss start bytes (begun []) filled (c.new-current.ensures []) in
+    let Q : List Class → Type 0 = λ cs. IsFilled start bytes (with_classes ss graph table cs) c.put_classes.new.waiting.items (g.F.Shelf.shelved c.put_classes.new.shelf)
+    × IsCurrent (with_classes ss graph table cs) c.put_classes.new.current.body.items c.put_classes.new.current.objects c.put_classes.new.current.heap in
+    let classes = subst Q c.classes.ensures.value (c.in_ok-put_classes.ensures.ok start bytes (with_roots ss graph table) roots.0 roots.1) in
+    let objects = c.in_ok-put_objects.ensures.ok start bytes (with_classes ss graph table graph.classes) classes.0 classes.1 in
+    subst (λ (rs : List TopRecord). AppendedPrefix start (bytes ++ bytes_of_records rs) now) (all-closed ss graph table)
+    (c.in_err-close.ensures.failed start bytes (with_objects ss graph table) objects.0 objects.1))
 
 pub returns-clause-ok : goal.returns-clause-ok
 returns-clause-ok g c =
@@ -130,7 +130,7 @@ returns-clause-ok g c =
     let filled = records-none start old bytes c.args.waiting.now.items but in
     let roots = c.in_ok-put_roots.ensures.ok ss start bytes (begun []) filled (c.new-current.ensures []) in
     let Q : List Class → Type 0 = λ cs. IsFilled start bytes (with_classes ss graph table cs) c.put_classes.new.waiting.items (g.F.Shelf.shelved c.put_classes.new.shelf)
-        × IsCurrent (with_classes ss graph table cs) c.put_classes.new.current.body.items c.put_classes.new.current.objects c.put_classes.new.current.heap in
+    × IsCurrent (with_classes ss graph table cs) c.put_classes.new.current.body.items c.put_classes.new.current.objects c.put_classes.new.current.heap in
     let classes = subst Q c.classes.ensures.value (c.in_ok-put_classes.ensures.ok start bytes (with_roots ss graph table) roots.0 roots.1) in
     let objects = c.in_ok-put_objects.ensures.ok start bytes (with_classes ss graph table graph.classes) classes.0 classes.1 in
     subst (λ (rs : List TopRecord). AppendedBut start (bytes ++ bytes_of_records rs) c.close.new.waiting.items now) (all-closed ss graph table)

@@ -1,4 +1,4 @@
-use Rattle.std.proofs.Common.{◌≡◌, ◌∙◌, ℕ, ◌+◌, ◌≤◌, List, ◌++◌, [], ◌∷◌, Some, length, take, arith, refl, sym, ap, subst}
+use Rattle.std.proofs.Common.{◌≡◌, ◌∙◌, ℕ, ◌+◌, ◌≤◌, List, ◌++◌, [], Some, length, take, arith, refl, sym, ap, subst}
 use Rattle.std.proofs.lemmas.List.{take_all}
 use Rattle.std.specs.List.{slice_get}
 use Rattle.std.specs.Option.{option_copied}
@@ -27,7 +27,7 @@ loop-k-preserved g c =
     record {
       count = inv.count;
       put = λ start bytes but. c.in_ok-put_piece.ensures.ok start (bytes ++ bytes_of_records (text_records 1 (take (k + 1) ss)))
-        (record-waits start (g.F.Shelf.shelved c.loop-k.shelf) bytes c.loop-k.waiting.items c.put_text.new.out.items (text_records 1 (take k ss)) (text_records 1 (take (k + 1) ss))
+          (record-waits start (g.F.Shelf.shelved c.loop-k.shelf) bytes c.loop-k.waiting.items c.put_text.new.out.items (text_records 1 (take k ss)) (text_records 1 (take (k + 1) ss))
           (Text 0 (k + 1) c.unwrap-text.result.now) (text-next ss k c.unwrap-text.result.now key) c.in_ok-put_text.ensures (inv.put start bytes but));
       unfinished = c.in_ok-put_piece.ensures.unfinished;
       never_falls = let a = inv.never_falls in let b = c.put_piece.ensures.never_falls in omega arith;
@@ -40,7 +40,7 @@ returns-in_err-put_text-clause-failed g c =
     let now = g.F.Shelf.shelved c.loop-k.shelf in
     let rest = texts-split 1 ss k in
     let P : Type 0 = (start : Shelved) (bytes : List ℕ) → AppendedBut start bytes c.args.waiting.now.items (g.F.Shelf.shelved c.args.shelf.now)
-        → AppendedPrefix start (bytes ++ bytes_of_records (text_records 1 ss)) now in
+    → AppendedPrefix start (bytes ++ bytes_of_records (text_records 1 ss)) now in
     on_err-always P c.from_residual.result
     (λ start bytes but. records-stopped start now bytes c.loop-k.waiting.items (text_records 1 (take k ss)) rest.0 (text_records 1 ss) rest.1 (c.loop-k.invariant.put start bytes but))
 
@@ -53,12 +53,12 @@ returns-in_err-put_piece-clause-failed g c =
     let rest = texts-split 1 ss (k + 1) in
     let key : slice_get ss k ≡ Some c.unwrap-text.result.now = sym c.get_index.ensures.key ∙ ap option_copied c.unwrap-text.ensures in
     let P : Type 0 = (start : Shelved) (bytes : List ℕ) → AppendedBut start bytes c.args.waiting.now.items (g.F.Shelf.shelved c.args.shelf.now)
-        → AppendedPrefix start (bytes ++ bytes_of_records (text_records 1 ss)) now in
+    → AppendedPrefix start (bytes ++ bytes_of_records (text_records 1 ss)) now in
     on_err-always P c.from_residual-in_err-put_piece.result
     (λ start bytes but. records-prefix start now bytes (text_records 1 (take (k + 1) ss)) rest.0 (text_records 1 ss) rest.1
-      (c.in_err-put_piece.ensures.failed start (bytes ++ bytes_of_records (text_records 1 (take (k + 1) ss)))
-        (record-waits start (g.F.Shelf.shelved c.loop-k.shelf) bytes c.loop-k.waiting.items c.put_text.new.out.items (text_records 1 (take k ss)) (text_records 1 (take (k + 1) ss))
-          (Text 0 (k + 1) c.unwrap-text.result.now) (text-next ss k c.unwrap-text.result.now key) c.in_ok-put_text.ensures (inv.put start bytes but))))
+    (c.in_err-put_piece.ensures.failed start (bytes ++ bytes_of_records (text_records 1 (take (k + 1) ss)))
+    (record-waits start (g.F.Shelf.shelved c.loop-k.shelf) bytes c.loop-k.waiting.items c.put_text.new.out.items (text_records 1 (take k ss)) (text_records 1 (take (k + 1) ss))
+    (Text 0 (k + 1) c.unwrap-text.result.now) (text-next ss k c.unwrap-text.result.now key) c.in_ok-put_text.ensures (inv.put start bytes but))))
 
 pub returns-clause-ok : goal.returns-clause-ok
 returns-clause-ok g c =

@@ -8,8 +8,8 @@ use Rattle.hprof_write.specs.Outcomes.{AppendedBut, AppendedPrefix}
 use Rattle.hprof_write.specs.Segments.{segments}
 use Rattle.hprof_write.specs.Strings.{strings}
 use Rattle.hprof_write.specs.Written.{dump_end, front_of, items, written, written_with}
-use Rattle.hprof_write.proofs.Appends.{Appended-none, AppendedBut-stopped, AppendedPrefix-more}
-use Rattle.hprof_write.proofs.RecordRuns.{record-waits, records-join, records-prefix, records-stopped}
+use Rattle.hprof_write.proofs.Appends.{Appended-none, AppendedBut-stopped}
+use Rattle.hprof_write.proofs.RecordRuns.{record-waits, records-join, records-prefix}
 use Rattle.hprof_write.proofs.TableLines.{on_err-always}
 use Rattle.hprof_write.proofs.dump.write_dump.Goals as goal
 
@@ -87,7 +87,7 @@ returns-in_err-put_front-clause-failed g c =
     let but = header-waits start c.new-waiting.result.items c.put_header.new.out.items (header_bytes time) c.new-waiting.ensures.items c.in_ok-put_header.ensures in
     on_err-always (AppendedPrefix start (dump_bytes time (written graph table)) now) c.from_residual-in_err-put_front.result
     (as-written time graph table c.classes.result.now ss start now c.classes.ensures.value c.in_ok-strings.ensures
-      (front-prefix time graph table c.classes-2.result.now ss start now c.classes-2.ensures.value (c.in_err-put_front.ensures.failed start (header_bytes time) but)))
+    (front-prefix time graph table c.classes-2.result.now ss start now c.classes-2.ensures.value (c.in_err-put_front.ensures.failed start (header_bytes time) but)))
 
 pub returns-in_err-put_segments-clause-failed : goal.returns-in_err-put_segments-clause-failed
 returns-in_err-put_segments-clause-failed g c =
@@ -99,11 +99,11 @@ returns-in_err-put_segments-clause-failed g c =
     let ss = c.in_ok-strings.strings.keys in
     let but = header-waits start c.new-waiting.result.items c.put_header.new.out.items (header_bytes time) c.new-waiting.ensures.items c.in_ok-put_header.ensures in
     let front = front-but time graph c.classes-2.result.now ss start (g.F.Shelf.shelved c.put_front.new.shelf) c.put_front.new.waiting.items c.classes-2.ensures.value
-        (c.in_ok-put_front.ensures.ok start (header_bytes time) but) in
+    (c.in_ok-put_front.ensures.ok start (header_bytes time) but) in
     on_err-always (AppendedPrefix start (dump_bytes time (written graph table)) now) c.from_residual-in_err-put_segments.result
     (as-written time graph table c.classes.result.now ss start now c.classes.ensures.value c.in_ok-strings.ensures
-      (segments-prefix time graph table ss start now
-        (c.in_err-put_segments.ensures.failed start (header_bytes time ++ bytes_of_records (front_of ss graph.classes)) front)))
+    (segments-prefix time graph table ss start now
+    (c.in_err-put_segments.ensures.failed start (header_bytes time ++ bytes_of_records (front_of ss graph.classes)) front)))
 
 pub returns-in_err-put_end-clause-failed : goal.returns-in_err-put_end-clause-failed
 returns-in_err-put_end-clause-failed g c =
@@ -115,12 +115,12 @@ returns-in_err-put_end-clause-failed g c =
     let ss = c.in_ok-strings.strings.keys in
     let but = header-waits start c.new-waiting.result.items c.put_header.new.out.items (header_bytes time) c.new-waiting.ensures.items c.in_ok-put_header.ensures in
     let front = front-but time graph c.classes-2.result.now ss start (g.F.Shelf.shelved c.put_front.new.shelf) c.put_front.new.waiting.items c.classes-2.ensures.value
-        (c.in_ok-put_front.ensures.ok start (header_bytes time) but) in
+    (c.in_ok-put_front.ensures.ok start (header_bytes time) but) in
     let bytes : List ℕ = header_bytes time ++ bytes_of_records (front_of ss graph.classes) in
     on_err-always (AppendedPrefix start (dump_bytes time (written graph table)) now) c.from_residual-in_err-put_end.result
     (as-written time graph table c.classes.result.now ss start now c.classes.ensures.value c.in_ok-strings.ensures
-      (segments-prefix time graph table ss start now
-        (AppendedBut-stopped start now (bytes ++ bytes_of_records (segments_of ss graph table)) c.put_segments.new.waiting.items (c.in_ok-put_segments.ensures.ok start bytes front))))
+    (segments-prefix time graph table ss start now
+    (AppendedBut-stopped start now (bytes ++ bytes_of_records (segments_of ss graph table)) c.put_segments.new.waiting.items (c.in_ok-put_segments.ensures.ok start bytes front))))
 
 pub returns-in_err-put_rest-clause-failed : goal.returns-in_err-put_rest-clause-failed
 returns-in_err-put_rest-clause-failed g c =
@@ -133,15 +133,15 @@ returns-in_err-put_rest-clause-failed g c =
     let ss = c.in_ok-strings.strings.keys in
     let but = header-waits start c.new-waiting.result.items c.put_header.new.out.items (header_bytes time) c.new-waiting.ensures.items c.in_ok-put_header.ensures in
     let front = front-but time graph c.classes-2.result.now ss start (g.F.Shelf.shelved c.put_front.new.shelf) c.put_front.new.waiting.items c.classes-2.ensures.value
-        (c.in_ok-put_front.ensures.ok start (header_bytes time) but) in
+    (c.in_ok-put_front.ensures.ok start (header_bytes time) but) in
     let bytes : List ℕ = header_bytes time ++ bytes_of_records (front_of ss graph.classes) in
     let segs = segments-but time graph table ss start before c.put_segments.new.waiting.items (c.in_ok-put_segments.ensures.ok start bytes front) in
     let all = record-waits start before (header_bytes time) c.put_segments.new.waiting.items c.put_end.new.out.items (front_of ss graph.classes ++ segments_of ss graph table)
-        (written_with ss graph table) dump_end refl c.in_ok-put_end.ensures segs in
+    (written_with ss graph table) dump_end refl c.in_ok-put_end.ensures segs in
     let waits = subst (λ (l : List ℕ). AppendedBut start (dump_bytes time (written_with ss graph table)) l before) (sym c.deref.ensures.value) all in
     on_err-always (AppendedPrefix start (dump_bytes time (written graph table)) now) c.from_residual-in_err-put_rest.result
     (as-written time graph table c.classes.result.now ss start now c.classes.ensures.value c.in_ok-strings.ensures
-      (c.in_err-put_rest.ensures.failed start (dump_bytes time (written_with ss graph table)) waits))
+    (c.in_err-put_rest.ensures.failed start (dump_bytes time (written_with ss graph table)) waits))
 
 pub returns-clause-ok : goal.returns-clause-ok
 returns-clause-ok g c =
@@ -154,11 +154,11 @@ returns-clause-ok g c =
     let ss = c.in_ok-strings.strings.keys in
     let but = header-waits start c.new-waiting.result.items c.put_header.new.out.items (header_bytes time) c.new-waiting.ensures.items c.in_ok-put_header.ensures in
     let front = front-but time graph c.classes-2.result.now ss start (g.F.Shelf.shelved c.put_front.new.shelf) c.put_front.new.waiting.items c.classes-2.ensures.value
-        (c.in_ok-put_front.ensures.ok start (header_bytes time) but) in
+    (c.in_ok-put_front.ensures.ok start (header_bytes time) but) in
     let bytes : List ℕ = header_bytes time ++ bytes_of_records (front_of ss graph.classes) in
     let segs = segments-but time graph table ss start before c.put_segments.new.waiting.items (c.in_ok-put_segments.ensures.ok start bytes front) in
     let all = record-waits start before (header_bytes time) c.put_segments.new.waiting.items c.put_end.new.out.items (front_of ss graph.classes ++ segments_of ss graph table)
-        (written_with ss graph table) dump_end refl c.in_ok-put_end.ensures segs in
+    (written_with ss graph table) dump_end refl c.in_ok-put_end.ensures segs in
     let waits = subst (λ (l : List ℕ). AppendedBut start (dump_bytes time (written_with ss graph table)) l before) (sym c.deref.ensures.value) all in
     subst (λ (l : List (List ℕ)). Appended start (dump_bytes time (written_with l graph table)) now) (c.in_ok-strings.ensures ∙ ap strings c.classes.ensures.value)
     (c.in_ok-put_rest.ensures.ok start (dump_bytes time (written_with ss graph table)) waits)

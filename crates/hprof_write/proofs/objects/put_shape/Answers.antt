@@ -1,12 +1,11 @@
-use Rattle.std.proofs.Common.{◌≡◌, ◌∙◌, ℕ, ◌+◌, ◌≤◌, List, ◌++◌, false, length, ap, subst, sym, arith}
+use Rattle.std.proofs.Common.{◌≡◌, ◌∙◌, ℕ, ◌≤◌, List, ◌++◌, false, length, subst, sym, arith}
 use Rattle.std.proofs.lemmas.Result.{on_ok_weaker}
 use Rattle.class_layout.specs.declared.kind.Kind.{Kind}
 use Rattle.class_layout.specs.declared.kind.Kind.TheVariants.{Ref, Boolean, Byte, Char, Short, Int, Long}
 use Rattle.class_layout.specs.ClassList.{Class, IsClassList}
 use Rattle.class_layout.specs.Placing.{IsIn}
 use Rattle.heap_graph.specs.declared.names.Shape.{Shape}
-use Rattle.heap_graph.specs.declared.names.Shape.TheVariants.{Instance, Array}
-use Rattle.heap_graph.specs.Graph.{Graph, Object}
+use Rattle.heap_graph.specs.declared.names.Shape.TheVariants.{Array}
 use Rattle.heap_graph.specs.Sizes.{is_too_large, unrounded}
 use Rattle.object_view.specs.Objects.{IsKnown, elements_from, places_of}
 use Rattle.hprof_records.specs.Parts.{bytes_of_part}
@@ -68,8 +67,8 @@ returns-in-Instance-clause-ok g c =
     let table = g.V.HeapView.table c.args.view.now in
     on_ok_weaker c.put_instance.result
     (λ h o there is shape.
-      subst (λ (s : Shape). c.put_instance.new.out.items ≡ c.args.out.now.items ++ bytes_of_part (shape_part graph.classes table o s)) (sym c.in-Instance.is)
-      (h o there is (shape ∙ c.in-Instance.is)))
+    subst (λ (s : Shape). c.put_instance.new.out.items ≡ c.args.out.now.items ++ bytes_of_part (shape_part graph.classes table o s)) (sym c.in-Instance.is)
+    (h o there is (shape ∙ c.in-Instance.is)))
     c.put_instance.ensures.ok
 
 pub returns-in_ok-put_elements-in-Array-clause-ok : goal.returns-in_ok-put_elements-in-Array-clause-ok
@@ -80,7 +79,7 @@ returns-in_ok-put_elements-in-Array-clause-ok g c =
     let kind = c.in-Array.kind in
     let count = c.in-Array.count in
     let has : HasValues graph table c.args.at.0 (elements_from kind 0 count) o =
-        record { is_in = there; at_is = is; values = λ p here. subst (λ (s : Shape). IsIn p (places_of graph.classes s)) (sym (shape ∙ c.in-Array.is)) here } in
+    record { is_in = there; at_is = is; values = λ p here. subst (λ (s : Shape). IsIn p (places_of graph.classes s)) (sym (shape ∙ c.in-Array.is)) here } in
     subst (λ (s : Shape). c.put_elements.new.out.items ≡ c.args.out.now.items ++ bytes_of_part (shape_part graph.classes table o s)) (sym c.in-Array.is)
     (array-put graph.classes table o kind count c.args.at.0 c.args.out.now.items c.put_array_head.new.out.items c.put_elements.new.out.items is
-      c.in_ok-put_array_head-in-Array.ensures (c.in_ok-put_elements-in-Array.ensures.ok o has))
+    c.in_ok-put_array_head-in-Array.ensures (c.in_ok-put_elements-in-Array.ensures.ok o has))

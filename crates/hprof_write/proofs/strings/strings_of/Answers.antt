@@ -1,4 +1,4 @@
-use Rattle.std.proofs.Common.{◌≡◌, ◌≤◌, length, codes, arith}
+use Rattle.std.proofs.Common.{◌≤◌, length, codes, arith}
 use Rattle.hprof_write.specs.Strings.{array_name}
 use Rattle.hprof_write.proofs.Texts.{name-is, texts-last, texts-next}
 use Rattle.hprof_write.proofs.strings.strings_of.Goals as goal
@@ -8,7 +8,7 @@ loop-class-preserved c =
     record {
       count = c.loop-class.invariant.count;
       keys = texts-next c.args.classes.now c.loop-class.class c.name.result c.own_fields.result.now c.loop-class.strings.keys c.add_class.new.strings.keys
-        c.name.ensures c.own_fields.ensures c.loop-class.invariant.keys c.in_ok-add_class.ensures;
+          c.name.ensures c.own_fields.ensures c.loop-class.invariant.keys c.in_ok-add_class.ensures;
     }
 
 pub returns : goal.returns

@@ -1,4 +1,4 @@
-use Rattle.std.proofs.Common.{◌<◌, ◌≤◌, ◌++◌, ◌∙◌, List, length, take, ap, subst, sym, arith}
+use Rattle.std.proofs.Common.{◌<◌, ◌≤◌, List, length, subst, sym, arith}
 use Rattle.std.proofs.lemmas.List.{take_all}
 use Rattle.class_layout.specs.declared.kind.FieldAt.{FieldAt}
 use Rattle.class_layout.specs.ClassList.{own_fields_of}
@@ -15,7 +15,7 @@ loop-k-preserved c =
     record {
       count = count;
       places = own-more c.args.classes.now c.args.class c.loop-k.k c.field_at.result c.args.places.now.items c.loop-k.places.items c.push.new.self.items
-        within c.field_at.ensures c.loop-k.invariant.places c.in_ok-push.ensures.items;
+          within c.field_at.ensures c.loop-k.invariant.places c.in_ok-push.ensures.items;
       within = own-within c.args.classes.now c.args.class c.loop-k.k c.field_at.result within c.field_at.ensures c.loop-k.invariant.within;
     }
 

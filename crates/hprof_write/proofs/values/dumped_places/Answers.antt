@@ -1,10 +1,10 @@
-use Rattle.std.proofs.Common.{◌≡◌, ◌<◌, ◌++◌, ◌∙◌, List, length, Some, suc, arith, subst, ap}
+use Rattle.std.proofs.Common.{◌++◌, List, Some, suc, arith, subst, ap}
 use Rattle.class_layout.specs.declared.kind.FieldAt.{FieldAt}
 use Rattle.class_layout.specs.Placing.{IsIn}
 use Rattle.heap_graph.specs.declared.names.Shape.TheVariants.{Instance}
 use Rattle.object_view.specs.Objects.{places_of}
 use Rattle.hprof_write.specs.Objects.{dumped_places, own_places, places_up}
-use Rattle.hprof_write.proofs.Chains.{parent-earlier, up-end, up-more, within-more}
+use Rattle.hprof_write.proofs.Chains.{parent-earlier, up-more, within-more}
 use Rattle.hprof_write.proofs.InstancePlaces.{parent-places}
 use Rattle.hprof_write.proofs.values.dumped_places.Goals as goal
 
@@ -31,9 +31,9 @@ loop-places-preserved c =
     record {
       known = omega arith;
       places = up-more cs c.loop-places.at c.in-Some.parent c.loop-places.places.items c.add_own_places.new.places.items (dumped_places cs c.args.class)
-        c.count-all.ensures.formed c.in-Some.ensures inv.places c.in_ok-add_own_places.ensures.places;
+          c.count-all.ensures.formed c.in-Some.ensures inv.places c.in_ok-add_own_places.ensures.places;
       within = within-more (λ (p : FieldAt). IsIn p (places_of cs (Instance c.args.class))) c.loop-places.places.items (own_places cs c.loop-places.at) c.add_own_places.new.places.items
-        c.in_ok-add_own_places.ensures.places inv.within (λ p own. inv.under p (c.in_ok-add_own_places.ensures.within p own));
+          c.in_ok-add_own_places.ensures.places inv.within (λ p own. inv.under p (c.in_ok-add_own_places.ensures.within p own));
       under = λ p there. inv.under p (parent-places cs c.loop-places.at c.in-Some.parent p c.count-all.ensures.formed c.in-Some.ensures there);
     }
 

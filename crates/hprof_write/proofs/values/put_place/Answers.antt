@@ -1,4 +1,4 @@
-use Rattle.std.proofs.Common.{◌≡◌, ◌∙◌, ◌++◌, rules, to_z, of_z, refl, ap, inl}
+use Rattle.std.proofs.Common.{◌≡◌, ◌∙◌, ◌++◌, rules, to_z, of_z, ap}
 use Rattle.std.specs.Int.{w64}
 use Rattle.std.proofs.lemmas.Int.{to_z-of_z}
 use Rattle.std.proofs.lemmas.Result.{on_ok_weaker}
@@ -15,5 +15,5 @@ returns-clause-ok g c =
     let back : to_z w64 (of_z w64 c.value-v.result) ≡ c.value-v.result = to_z-of_z w64 c.value-v.result (search rules) in
     on_ok_weaker c.put_value.result
     (λ h o has. h ∙ ap (λ z. c.args.out.now.items ++ value_bytes c.args.place.kind z)
-      (back ∙ c.value-v.ensures.value o c.args.place (one-value (g.V.HeapView.graph c.args.view.now) (g.V.HeapView.table c.args.view.now) c.args.at.0 c.args.place o has)))
+    (back ∙ c.value-v.ensures.value o c.args.place (one-value (g.V.HeapView.graph c.args.view.now) (g.V.HeapView.table c.args.view.now) c.args.at.0 c.args.place o has)))
     c.put_value.ensures
