@@ -10,6 +10,7 @@ use crate::strings::string_id;
 use class_layout::{Classes, FieldDecl, Kind, Name};
 use hprof_records::{put_u8, put_u16};
 use indexmap::IndexSet;
+use model_numbers::{CLASS_BASE, CLASS_BYTES};
 use std::alloc::AllocError;
 
 /// The identifier of the class of arrays of references.
@@ -20,7 +21,7 @@ pub(crate) fn class_id(class: u32) -> u32
     requires { class < 65536 }
     ensures { result ≡ class_id class }
 {
-    0x1000_0000 + 64 * class
+    CLASS_BASE + CLASS_BYTES * class
 }
 
 /// The code of a kind's type.
@@ -48,6 +49,7 @@ pub(crate) fn put_class(
     requires { class < length classes.now }
     ensures { OnOk result (IsSomeAnd (slice_get classes.now class) (λ c. out.new.items ≡ out.old.items ++ bytes_of_part (class_dump strings.now.keys classes.now class c))) }
 {
+    // There are at most 65,536 classes, so each has an identifier of 32 bits.
     let _all = classes.count();
     let parent = parent_id(classes, class);
     let size = classes.unrounded(class) as u32;
@@ -66,6 +68,7 @@ fn parent_id(classes: &Classes, class: u32) -> u32
     requires { class < length classes.now }
     ensures { IsSomeAnd (slice_get classes.now class) (λ c. result ≡ parent_id c.parent) }
 {
+    // There are at most 65,536 classes, so each has an identifier of 32 bits.
     let _all = classes.count();
     match classes.parent(class) {
         Some(p) => class_id(p),
@@ -116,6 +119,6 @@ pub(crate) fn put_array_class(out: &mut Vec<u8>) -> Result<(), AllocError>
     ensures { OnOk result (out.new.items ≡ out.old.items ++ bytes_of_part array_class_dump) }
 {
     put_u8(out, 0x20)?;
-    put_words(out, &[ARRAY_CLASS, 0, 0x1000_0000, 0, 0, 0, 0, 0, 0])?;
+    put_words(out, &[ARRAY_CLASS, 0, CLASS_BASE, 0, 0, 0, 0, 0, 0])?;
     out.extend_from_slice(&[0; 6])
 }

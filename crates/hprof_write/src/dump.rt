@@ -394,6 +394,7 @@ fn put_next<V: HeapView, F: Shelf>(
 {
     let seen = next_seen(view);
     make_room(shelf, waiting, current)?;
+    // What is shown has the classes of its objects, and fits its table.
     let _shown = view.classes();
     put_object(alloc, view, strings, current, &seen)?;
     Ok(())

@@ -65,6 +65,7 @@ fn put_shape<V: HeapView>(
     ensures reads { (o : Object) → IsIn o (V.graph view.old).objects → (V.table view.old) o.number ≡ at.0 → o.shape ≡ shape
         → RoseBy (object_values (V.graph view.old).classes o) (V.read_count view.old) (V.read_count view.new) }
 {
+    // An instance has no more values than bytes.
     let _all = view.classes().count();
     match shape {
         Shape::Instance(class) => put_instance(alloc, view, out, at, class),
@@ -92,6 +93,7 @@ fn put_instance<V: HeapView>(
     ensures same { V.same view.old view.new }
     ensures reads { RoseBy (count_if (is_in_window at.0) (length (dumped_places (V.graph view.old).classes class))) (V.read_count view.old) (V.read_count view.new) }
 {
+    // There are at most 65,536 classes, so each has an identifier of 32 bits.
     let _all = view.classes().count();
     let places = dumped_places(alloc, view.classes(), class)?;
     let mut values = Vec::new(alloc);

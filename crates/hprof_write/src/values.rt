@@ -25,6 +25,7 @@ pub(crate) fn dumped_places(
     ensures places { IfOk result (λ places. places.items ≡ dumped_places classes.now class) }
     ensures within { IfOk result (λ places. (p : _) → IsIn p places.items → IsIn p (places_of classes.now (Shape.Instance class))) }
 {
+    // A superclass has a smaller number than its class, so the way up ends.
     let _all = classes.count();
     let mut places = Vec::new(alloc);
     let mut at = class;
