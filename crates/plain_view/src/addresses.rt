@@ -52,7 +52,7 @@ fn large_behind(large: u64, o: &Object) -> u64
 }
 
 /// The addresses of objects, in their order.
-fn addresses_of(
+pub(crate) fn addresses_of(
     alloc: Global,
     classes: &Classes,
     budget: u32,

@@ -2,3 +2,6 @@
 #![tactic(auto)]
 
 mod addresses;
+mod view;
+
+pub use view::View;
