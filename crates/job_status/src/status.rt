@@ -1,5 +1,5 @@
 ghost use Rattle.std.specs.Prelude.{◌≡◌};
-ghost use Rattle.script_run.specs.Status.{status_code};
+ghost use Rattle.job_status.specs.Status.{status_code};
 
 /// How a call of `artheap` ended.
 #[derive(Clone, Copy, Debug, PartialEq, Eq)]

@@ -1,5 +1,5 @@
 ghost use Rattle.std.specs.Prelude.{◌≡◌};
-ghost use Rattle.script_run.specs.Status.{job_status, refused_status, stop_status};
+ghost use Rattle.job_status.specs.Status.{job_status, refused_status, stop_status};
 
 use crate::Status;
 use std::alloc::AllocError;
@@ -19,7 +19,7 @@ pub enum Stop {
 
 impl From<AllocError> for Stop {
     ghost use Rattle.std.specs.Prelude.{◌≡◌};
-    ghost use Rattle.script_run.specs.declared.stop.Stop.TheVariants.{Memory};
+    ghost use Rattle.job_status.specs.declared.stop.Stop.TheVariants.{Memory};
 
     ghost from_gives = { λ _ e. e ≡ Memory };
 
@@ -29,7 +29,8 @@ impl From<AllocError> for Stop {
 }
 
 impl Stop {
-    fn status(self) -> Status
+    /// The status of a job that stopped so.
+    pub fn status(self) -> Status
         ensures { result ≡ stop_status self }
     {
         match self {
