@@ -7,3 +7,4 @@ mod lines;
 mod put;
 
 pub use lines::write_listing;
+pub use put::put_pieces;
