@@ -1,5 +1,6 @@
 -- How a reading of a dump may end, and what it leaves: each ending relates what the source and the sink tell before it to what they tell after it.
-use Rattle.std.specs.Prelude.{◌≡◌, ◌⊎◌, ℕ, ◌+◌, ◌<◌, ◌≤◌, ◌^◌, List, [], ◌++◌, Option, None, Some, codes, decimal, length}
+use Rattle.std.specs.Prelude.{◌≡◌, ◌⊎◌, ℕ, ◌+◌, ◌<◌, ◌≤◌, ◌^◌, List, [], ◌∷◌, Option, None, Some, codes, decimal, length}
+use Rattle.std.specs.List.{concat}
 use Rattle.ah_outside.specs.Outside.{FaultRose, Gave, Gained, GainedPrefix}
 use Rattle.hprof_list.specs.Listing.{listing}
 use Rattle.hprof_read.specs.declared.read_error.ReadError.{ReadError}
@@ -46,7 +47,7 @@ IsListing text put =
 
 -- the line that tells a fault by its number and its offset
 abbrev pub numbered_line : ℕ → ℕ → List ℕ
-numbered_line number offset = codes "not a dump: H" ++ decimal number ++ codes " at " ++ decimal offset ++ codes "\n"
+numbered_line number offset = concat (codes "not a dump: H" ∷ decimal number ∷ codes " at " ∷ decimal offset ∷ codes "\n" ∷ [])
 
 -- the number of a fault, and its offset; want of memory is no fault
 abbrev pub fault_number : ReadError → Option (ℕ × ℕ)
