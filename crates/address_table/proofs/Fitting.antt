@@ -1,6 +1,7 @@
 -- The computed table follows the rules of the heap.
 use Rattle.std.proofs.Common.{◌≡◌, ◌↔◌, ℕ, ◌+◌, ◌-◌, ◌*◌, ◌/◌, ◌%◌, ◌^◌, ◌<◌, ◌≤◌, ◌⊎◌, inl, inr, Bool, true, false, cond, nat_eq, List, [], ◌∷◌, length, slice_index, refl, sym, ap, ◌∙◌, subst, arith}
 use Rattle.std.proofs.lemmas.Bool.{eqb-true}
+use Rattle.model_numbers.specs.Numbers.{region_bytes}
 use Rattle.class_layout.specs.ClassList.{Class}
 use Rattle.class_layout.specs.Placing.{IsIn}
 use Rattle.heap_graph.specs.declared.names.Place.{Place}
@@ -28,7 +29,7 @@ last-is cs end [] = refl
 last-is cs end (o ∷ os) = ap (λ n. young_end cs n os) (next-is cs end o o.place) ∙ last-is cs (end_behind cs end o o.place) os
 
 -- an address is 0 or an object's
-found : (homes : Homes) (cs : List Class) (end large : ℕ) (os : List Object) (n : ℕ)
+pub found : (homes : Homes) (cs : List Class) (end large : ℕ) (os : List Object) (n : ℕ)
     → (table_from homes cs end large os n ≡ 0) ⊎ ((o : Object) × (IsIn o os × (o.number ≡ n)))
 found homes cs end large [] n = inl refl
 found homes cs end large (x ∷ os) n = by (nat_eq x.number n) refl (found homes cs (end_behind cs end x x.place) (large_behind large x.place) os n)
@@ -39,6 +40,10 @@ found homes cs end large (x ∷ os) n = by (nat_eq x.number n) refl (found homes
     by true e rest = inr (x, (inl refl, eqb-true x.number n e))
     by false e (inl none) = inl none
     by false e (inr (o, h)) = inr (o, (inr h.0, h.1))
+
+-- the young objects end within the regions that the process may use
+pub young-fits : (g : Graph) → IsFormed g → last_end g.classes 0 g.objects ≤ region_bytes * g.budget
+young-fits g formed = let within = formed.regions in omega (arith, used-is g, last-is g.classes 0 g.objects, within)
 
 module _ (homes : Homes) (g : Graph) (formed : IsFormed g) (house : HouseAll homes g) where
   cs : List Class

@@ -12,7 +12,7 @@ pub fn tables_fit()
 
 /// The first regions and slots suffice for every formed graph: it has a table.
 pub fn first_homes_suffice()
-    ensures { (g : Graph) → IsFormed g → HouseAll (first_homes g) g }
+    ensures { (g : Graph) → IsFormed g → HouseAll (first_homes g.budget) g }
 {}
 
 /// The addresses in a row are those that the table has for the objects' numbers.
