@@ -1,5 +1,5 @@
 -- What stands at a place of an object is a value of the place's kind.
-use Rattle.std.proofs.Common.{◌≡◌, ℕ, ◌+◌, ◌*◌, ◌^◌, ◌<◌, length, get_or, map, slice_index, inl, inr, Bool, true, false, true≢false, ◌&&◌, List, [], ◌∷◌, Some, nat_eq, nat_le, refl, sym, ap, subst, ◌∙◌, arith}
+use Rattle.std.proofs.Common.{◌≡◌, ℕ, ◌^◌, ◌<◌, length, get_or, map, slice_index, inl, inr, Bool, true, false, true≢false, ◌&&◌, List, [], ◌∷◌, nat_eq, nat_le, refl, sym, ap, subst, ◌∙◌, arith}
 use Rattle.std.specs.Prelude.{ℤ, pos, IsTrue}
 use Rattle.std.specs.List.{AllByRecursion}
 use Rattle.std.proofs.lemmas.Bool.{eqb-true, le-leb}
@@ -17,7 +17,7 @@ use Rattle.heap_graph.specs.declared.names.Stored.{Stored}
 use Rattle.heap_graph.specs.Graph.{Graph, Object}
 use Rattle.heap_graph.specs.Values.{empty_slot, value_at, value_if}
 use Rattle.heap_world.specs.Formed.{AreSlots, FitsKind, HasSlot, HoldsValues, IsFormed}
-use Rattle.object_view.specs.Objects.{elements_from, places_of, IsPlace}
+use Rattle.object_view.specs.Objects.{elements_from, places_of}
 use Rattle.object_view.specs.Seen.{seen_value, value_in, HasValue}
 use Rattle.object_view.specs.Values.{is_value}
 use Rattle.object_view.proofs.Laid.{element-in, found-in, one-place, ref-kind}

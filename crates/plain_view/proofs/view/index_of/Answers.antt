@@ -1,4 +1,4 @@
-use Rattle.std.proofs.Common.{◌≡◌, ◌<◌, ℕ, slice_index, arith}
+use Rattle.std.proofs.Common.{arith}
 use Rattle.plain_view.proofs.view.index_of.Goals as goal
 
 pub unreachable-requires : goal.unreachable-requires

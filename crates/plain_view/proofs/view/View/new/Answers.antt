@@ -38,5 +38,5 @@ pub invariant_of-result : goal.invariant_of-result
 invariant_of-result c =
     let g : Graph = c.args.graph.now in
     let items = c.in_ok-addresses.ensures ∙ listed_same g.classes c.classes.result.now g.objects c.objects.result.now g.budget c.budget.result c.classes.ensures c.objects.ensures c.budget.ensures
-        ∙ listed (first_homes g.budget) g.classes 0 g.next 0 0 g.objects (let formed = c.requires.formed in formed.numbers) in
+    ∙ listed (first_homes g.budget) g.classes 0 g.next 0 0 g.objects (let formed = c.requires.formed in formed.numbers) in
     (c.requires.formed, items, omega arith)

@@ -1,4 +1,4 @@
-use Rattle.std.proofs.Common.{◌≡◌, sym, ◌∙◌}
+use Rattle.std.proofs.Common.{sym, ◌∙◌}
 use Rattle.plain_view.proofs.Found.{none-stands, some-stands}
 use Rattle.plain_view.proofs.view.View.stands_at.Goals as goal
 

@@ -38,7 +38,7 @@ read inside g items xs os i at r kind offset v z e formed is same found objects 
     let inside_map : i < length (map (λ o. first_table g o.number) g.objects) = subst (λ (ys : List ℕ). i < length ys) (same ∙ is') found.0 in
     let less : i < length g.objects = simp length-map at inside_map in
     let value = value-there g items i at r kind offset v z formed' is' less (ap (λ ys. slice_index ys i) (sym same) ∙ found.1)
-        (r-is ∙ ap (λ ys. get_or ys i r) (objects ∙ ap (λ (x : Graph). x.objects) e)) v-is z-is o place has in
+    (r-is ∙ ap (λ ys. get_or ys i r) (objects ∙ ap (λ (x : Graph). x.objects) e)) v-is z-is o place has in
     let fits : Fits (first_table g) g = first-fits g formed' in
     (value, subst (λ (y : ℤ). IsTrue (is_value kind y)) (sym value) (value-fits g (first_table g) at kind offset o place formed' fits.below has))
 
@@ -47,8 +47,8 @@ returns-clause-value c = λ o place has.
     let e : c.self.inside.graph.now ≡ c.args.self.now.graph = ap (λ (w : Viewed). w.graph) c.self.view_is in
     let back : to_z w64 (of_z w64 c.seen_value.result) ≡ c.seen_value.result = to_z-of_z w64 c.seen_value.result (search rules) in
     back ∙ (read c.self.inside.graph.now c.args.self.now.graph c.self.inside.addresses.items c.deref.result.now c.objects.result.now c.index_of-i.result c.args.at.0 c.index-objects-i.result
-        c.args.kind c.args.offset c.value_at.result c.seen_value.result e c.self.invariant.0 c.self.invariant.1 c.deref.ensures.value c.index_of-i.ensures c.objects.ensures c.index-objects-i.is
-        c.value_at.ensures c.seen_value.ensures o place has).0
+    c.args.kind c.args.offset c.value_at.result c.seen_value.result e c.self.invariant.0 c.self.invariant.1 c.deref.ensures.value c.index_of-i.ensures c.objects.ensures c.index-objects-i.is
+    c.value_at.ensures c.seen_value.ensures o place has).0
 
 pub returns-clause-range : goal.returns-clause-range
 returns-clause-range c =
@@ -57,5 +57,5 @@ returns-clause-range c =
     let there = c.requires in
     subst (λ (y : ℤ). IsTrue (is_value c.args.kind y)) (sym back)
     (read c.self.inside.graph.now c.args.self.now.graph c.self.inside.addresses.items c.deref.result.now c.objects.result.now c.index_of-i.result c.args.at.0 c.index-objects-i.result
-        c.args.kind c.args.offset c.value_at.result c.seen_value.result e c.self.invariant.0 c.self.invariant.1 c.deref.ensures.value c.index_of-i.ensures c.objects.ensures c.index-objects-i.is
-        c.value_at.ensures c.seen_value.ensures there.0 there.1 there.2).1
+    c.args.kind c.args.offset c.value_at.result c.seen_value.result e c.self.invariant.0 c.self.invariant.1 c.deref.ensures.value c.index_of-i.ensures c.objects.ensures c.index-objects-i.is
+    c.value_at.ensures c.seen_value.ensures there.0 there.1 there.2).1
