@@ -7,3 +7,5 @@ mod forms;
 mod readers;
 #[cfg(test)]
 mod writers;
+#[cfg(test)]
+mod wanted;
