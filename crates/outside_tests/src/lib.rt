@@ -6,6 +6,6 @@ mod forms;
 #[cfg(test)]
 mod readers;
 #[cfg(test)]
-mod writers;
-#[cfg(test)]
 mod wanted;
+#[cfg(test)]
+mod writers;

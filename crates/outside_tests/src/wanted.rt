@@ -6,11 +6,7 @@ use ah_outside::{Failed, MemoryShelf};
 use std::process::Abort;
 
 /// A call moves as many bytes as wanted, or fails.
-pub(crate) fn moves(
-    rt: &impl Abort,
-    answer: Result<usize, Failed>,
-    wanted: Result<usize, Failed>,
-) {
+pub(crate) fn moves(rt: &impl Abort, answer: Result<usize, Failed>, wanted: Result<usize, Failed>) {
     assert_eq!(rt; answer, wanted);
 }
 

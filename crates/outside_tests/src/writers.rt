@@ -1,8 +1,11 @@
 //! Writers as sinks, and files as entries of a shelf.
+ghost use Rattle.std.specs.Prelude.{◌≡◌, false};
+
 use crate::wanted::{does, failed, has, moves, tells};
 use ah_outside::{BufferedSink, Failed, FolderShelf, SharedWriter, Shelf, Sink, WriteSink};
 use std::io::BufWriter;
 use std::os::unix::fs::symlink;
+use std::process::Abort;
 use std::test::Fail;
 use std::{fs, io};
 
@@ -54,23 +57,33 @@ fn holds_back_and_counts_what_is_not_taken(rt: HostRuntime) -> io::Result<()> {
     Ok(())
 }
 
+/// Puts two entries, of two pieces and of none, and then tries one whose name is no file's.
+fn puts_entries<S: Shelf>(rt: &impl Abort, shelf: &mut S, first: &str, second: &str)
+    requires { (S.shelved shelf.old).unfinished ≡ false }
+{
+    does(rt, shelf.begin(first.as_bytes()), Ok(()));
+    does(rt, shelf.put(b"abc"), Ok(()));
+    does(rt, shelf.put(b"de"), Ok(()));
+    does(rt, shelf.finish(), Ok(()));
+    does(rt, shelf.begin(second.as_bytes()), Ok(()));
+    does(rt, shelf.finish(), Ok(()));
+    does(rt, shelf.begin(b"folder/file"), Err(Failed));
+    failed(rt, shelf.faults(), 1);
+}
+
 #[test]
 fn makes_files_in_place_of_others(rt: HostRuntime) -> Result<(), Fail> {
     let (target, first, second) = ("folder_shelf.0", "folder_shelf.1", "folder_shelf.2");
     fs::write(&rt, target, "kept")?;
     fs::write(&rt, first, "what stood there before")?;
     symlink(&rt, target, second)?;
-    let mut shelf = FolderShelf::new(&rt);
-    does(&rt, shelf.begin(first.as_bytes()), Ok(()));
-    does(&rt, shelf.put(b"abc"), Ok(()));
-    does(&rt, shelf.put(b"de"), Ok(()));
-    does(&rt, shelf.finish(), Ok(()));
-    does(&rt, shelf.begin(second.as_bytes()), Ok(()));
-    does(&rt, shelf.finish(), Ok(()));
-    does(&rt, shelf.begin(b"folder/file"), Err(Failed));
-    failed(&rt, shelf.faults(), 1);
+    puts_entries(&rt, &mut FolderShelf::new(&rt), first, second);
     for (name, text) in [(target, "kept"), (first, "abcde"), (second, "")] {
-        has(&rt, fs::read_to_string(&rt, name)?.as_bytes(), text.as_bytes());
+        has(
+            &rt,
+            fs::read_to_string(&rt, name)?.as_bytes(),
+            text.as_bytes(),
+        );
         fs::remove_file(&rt, name)?;
     }
     Ok(())
