@@ -4,7 +4,7 @@ use Rattle.std.specs.Prelude.{IfSome, ◌↔◌, nat_lt}
 use Rattle.std.proofs.lemmas.Bool.{ltb-false}
 use Rattle.std.proofs.lemmas.List.{append-nil, take-append-drop}
 use Rattle.std.proofs.Math.Seq.{take-append-add}
-use Rattle.ah_outside.specs.Outside.{FaultRose, Gave, Gained}
+use Rattle.ah_outside.specs.Outside.{FaultRose, Gave}
 use Rattle.heap_world.specs.Isolation.{NoNameTaken}
 use Rattle.heap_world.specs.World.{World, first_world}
 use Rattle.model_numbers.specs.Numbers.{input_limit, piece_bytes}
@@ -17,7 +17,7 @@ use Rattle.script_report.specs.Report.{answers, last_world}
 use Rattle.script_run.specs.declared.input.Progress.{Progress}
 use Rattle.job_status.specs.declared.stop.Stop.{Stop}
 use Rattle.job_status.specs.declared.stop.Stop.TheVariants.{Read, Write, Memory, TooLong}
-use Rattle.script_run.specs.Ends.{CameTo, EndedRun, RanLines, StoppedForMemory, StoppedReading, TookTooMany}
+use Rattle.script_run.specs.Ends.{CameTo, EndedRun, RanLines, StoppedForMemory, TookTooMany}
 use Rattle.script_run.specs.Outside.{Outside, outside_of, output_of}
 use Rattle.script_run.specs.Progress.{HasRun, HasRunLines, HasTaken, StoppedIn, StoppedLast}
 use Rattle.job_status.specs.Inputs.{NothingLeft}
