@@ -68,7 +68,13 @@ fn told_of(bytes: usize) -> (Status, &'static [u8]) {
 fn each_front_of_a_dump_is_told(rt: HostRuntime) -> Result<(), Fail> {
     for bytes in 0..DUMP.len() {
         let (status, text) = told_of(bytes);
-        gives(&rt, rt.alloc(), &reading(&DUMP[..bytes], &[], &[]), text, status)?;
+        gives(
+            &rt,
+            rt.alloc(),
+            &reading(&DUMP[..bytes], &[], &[]),
+            text,
+            status,
+        )?;
     }
     Ok(())
 }
@@ -77,9 +83,21 @@ fn each_front_of_a_dump_is_told(rt: HostRuntime) -> Result<(), Fail> {
 fn each_take_may_fail(rt: HostRuntime) -> Result<(), Fail> {
     // ten pieces of 7 bytes, and the end
     for take in 1..=11 {
-        gives(&rt, rt.alloc(), &reading(&DUMP, &[take], &[]), b"", Status::ReadFault)?;
+        gives(
+            &rt,
+            rt.alloc(),
+            &reading(&DUMP, &[take], &[]),
+            b"",
+            Status::ReadFault,
+        )?;
     }
-    gives(&rt, rt.alloc(), &reading(&DUMP, &[12], &[]), LISTING, Status::Ok)?;
+    gives(
+        &rt,
+        rt.alloc(),
+        &reading(&DUMP, &[12], &[]),
+        LISTING,
+        Status::Ok,
+    )?;
     Ok(())
 }
 
@@ -91,7 +109,11 @@ fn put_fails(rt: &impl Abort, alloc: Global, put: u64) -> Result<bool, AllocErro
     ends(
         rt,
         called.status,
-        if whole { Status::Ok } else { Status::WriteFault },
+        if whole {
+            Status::Ok
+        } else {
+            Status::WriteFault
+        },
     );
     Ok(whole)
 }
