@@ -1,4 +1,6 @@
-use crate::bytes::{BUILT_IN, SMALL};
+use crate::bytes::{BUILT_IN, EACH, EACH_LISTING, SMALL, SMALL_LISTING};
+use ah_outside::{MemorySink, Sink};
+use hprof_list::write_listing;
 use hprof_read::{Dump, ReadError, read_dump};
 use hprof_records::{SubRecord, TopRecord};
 use std::alloc::AllocError;
@@ -125,6 +127,34 @@ fn records_of_a_dump(rt: HostRuntime) -> Result<(), Fail> {
             );
         }
         _ => assert!(rt; false),
+    }
+    Ok(())
+}
+
+#[test]
+fn listings(rt: HostRuntime) -> Result<(), Fail> {
+    for (bytes, listing) in [
+        (SMALL.as_slice(), SMALL_LISTING),
+        (EACH.as_slice(), EACH_LISTING),
+    ] {
+        let dump = read_dump(rt.alloc(), bytes).map_err(|_| AllocError)?;
+        let mut sink = MemorySink::new(rt.alloc(), 4_096, &[])?;
+        assert!(rt; write_listing(&dump, &mut sink).is_ok());
+        assert_eq!(rt; sink.bytes(), listing.as_bytes());
+    }
+    Ok(())
+}
+
+#[test]
+fn each_put_failing(rt: HostRuntime) -> Result<(), Fail> {
+    let listing = EACH_LISTING.as_bytes();
+    let dump = read_dump(rt.alloc(), &EACH).map_err(|_| AllocError)?;
+    for put in 1..=100 {
+        let mut sink = MemorySink::new(rt.alloc(), 4_096, &[put])?;
+        assert!(rt; write_listing(&dump, &mut sink).is_err(), "{put}");
+        assert_eq!(rt; sink.faults(), 1, "{put}");
+        assert!(rt; listing.starts_with(sink.bytes()), "{put}");
+        assert!(rt; sink.bytes().len() < listing.len(), "{put}");
     }
     Ok(())
 }

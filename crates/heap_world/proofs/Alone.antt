@@ -7,7 +7,7 @@ use Rattle.heap_world.specs.declared.command.Command.{Command}
 use Rattle.heap_world.specs.declared.names.Label.{Label}
 use Rattle.heap_world.specs.declared.command.Verb.TheVariants as verb
 use Rattle.heap_world.specs.Effect.{Effect}
-use Rattle.heap_world.specs.Acts.{act}
+use Rattle.heap_world.specs.Acts.{act, fork_part}
 use Rattle.heap_world.specs.Isolation.{answer_unless, is_frames, refuses_name}
 use Rattle.heap_world.specs.World.{Process, World, Stepped, process_named, is_taken, process_after, stepped, child_process, is_done, fork_done, fork_named, fork_if, step_process, step_live, step_found, step}
 use Rattle.heap_world.proofs.Processes.{or_false}
@@ -122,7 +122,7 @@ module _ (w a : World) (n : ℕ) (name : List ℕ) (q : Process) (other : List �
     named : (child : List ℕ) (x y : Bool) → is_taken w child ≡ x → is_taken a child ≡ y → refuses_name (fork_named x w n q child).reply ≡ false → IsAlike n (verb.Fork child) name (fork_named x w n q child) (fork_named y a n twin child)
     named child true y i j fine = absurd (both_ways true fine refl)
     named child false true i j fine = absurd (both_ways (is_taken a child) (names child i) j)
-    named child false false i j fine = forked child (act q.part (verb.Fork child)) (is_done (act q.part (verb.Fork child)).reply) refl i
+    named child false false i j fine = forked child (fork_part q.part) (is_done (fork_part q.part).reply) refl i
 
     -- by whether the parent is sealed
     sealed : (child : List ℕ) (s : Bool) → refuses_name (fork_if s w n q child).reply ≡ false → IsAlike n (verb.Fork child) name (fork_if s w n q child) (fork_if s a n twin child)

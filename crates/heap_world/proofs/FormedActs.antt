@@ -15,7 +15,7 @@ use Rattle.heap_graph.specs.Values.{slot_of, held_of, value_at}
 use Rattle.heap_world.specs.declared.command.Verb.{Verb}
 use Rattle.heap_world.specs.declared.command.Verb.TheVariants as verb
 use Rattle.heap_world.specs.declared.reply.Refusal.{Refusal}
-use Rattle.heap_world.specs.Acts.{act, after_define, store_effect, with_slot, store, set_field, put_element, get_field, get_element, copy_root, load_slot, load_field, load_element, drop_held, show_root, seal_if, gc_if, fork_collected, fork_by, dump_counted, dump_if}
+use Rattle.heap_world.specs.Acts.{act, after_define, store_effect, with_slot, store, set_field, put_element, get_field, get_element, copy_root, load_slot, load_field, load_element, drop_held, show_root, seal_if, gc_if, fork_collected, fork_part, dump_counted, dump_if}
 use Rattle.heap_world.specs.Effect.{Effect, effect_or}
 use Rattle.heap_world.specs.Formed.{IsFormed, FitsKind, HasSlot, HasFewFields}
 use Rattle.heap_world.specs.Part.{Part}
@@ -146,9 +146,8 @@ module _ (p : Part) (formed : IsFormed p.graph) where
   fork_collected_keeps sealed true e = promoted_formed (collect g) sealed e (collect_formed g sealed formed)
   fork_collected_keeps sealed false e = collect_formed g sealed formed
 
-  fork_keeps : (b : Bool) → g.sealed ≡ b → Keeps (fork_by b p)
-  fork_keeps true e = fork_collected_keeps e (has_zygote_room (collect g)) refl
-  fork_keeps false e = formed
+  pub fork_keeps : g.sealed ≡ true → Keeps (fork_part p)
+  fork_keeps e = fork_collected_keeps e (has_zygote_room (collect g)) refl
 
   -- dump
   dump_keeps : (b : Bool) → Keeps (dump_if b p)
@@ -173,7 +172,7 @@ act_keeps p (verb.Drop root) few formed = effect_keeps p (drop_held p root) form
 act_keeps p (verb.Show root) few formed = effect_keeps p (show_root p root) formed (show_keeps p formed root)
 act_keeps p verb.Seal few formed = seal_keeps p formed p.graph.sealed
 act_keeps p verb.Gc few formed = gc_keeps p formed p.graph.sealed refl
-act_keeps p (verb.Fork child) few formed = fork_keeps p formed p.graph.sealed refl
+act_keeps p (verb.Fork child) few formed = formed
 act_keeps p verb.Exit few formed = formed
 act_keeps p verb.Free few formed = formed
 act_keeps p verb.Pages few formed = formed

@@ -24,13 +24,13 @@ use Rattle.heap_graph.specs.Values.{held_of, slot_of, value_at}
 use Rattle.heap_world.specs.declared.command.Verb.{Verb}
 use Rattle.heap_world.specs.declared.command.Verb.TheVariants as verb
 use Rattle.heap_world.specs.declared.reply.Refusal.{Refusal}
-use Rattle.heap_world.specs.Acts.{act, after_define, after_make, copy_root, drop_held, fork_by, fork_collected, gc_if, get_element, get_field, load_element, load_field, load_slot, make_numbered, make_shape, make_sized, make_slots, make_weak, new_of_class, part_after, put_element, referent_at, root_written, seal_if, set_field, show_root, store, dump_counted, dump_if}
+use Rattle.heap_world.specs.Acts.{act, after_define, after_make, copy_root, drop_held, fork_part, fork_collected, gc_if, get_element, get_field, load_element, load_field, load_slot, make_numbered, make_shape, make_sized, make_slots, make_weak, new_of_class, part_after, put_element, referent_at, root_written, seal_if, set_field, show_root, store, dump_counted, dump_if}
 use Rattle.heap_world.specs.Effect.{Effect, effect_or}
 use Rattle.heap_world.specs.Formed.{IsFormed, FitsKind, HasFewFields, HasSlot, is_in_image}
 use Rattle.heap_world.specs.Part.{Part, first_part, with_collected}
 use Rattle.heap_world.specs.Slots.{◌>>=◌, held_by_root, named_by, object_held, only_reference, slot_indexed, slot_named, stored_value}
 use Rattle.heap_world.specs.Sound.{IsSound}
-use Rattle.heap_world.proofs.FormedActs.{act_keeps}
+use Rattle.heap_world.proofs.FormedActs.{act_keeps, fork_keeps}
 use Rattle.heap_world.proofs.FormedDefine.{IsGrown, define-grows}
 use Rattle.heap_world.proofs.FormedKept.{child_formed, collect_formed, first_formed}
 use Rattle.heap_world.proofs.FormedStores.{next_step, object-found, named-slot, indexed-slot}
@@ -248,9 +248,8 @@ module _ (p : Part) (formed : IsFormed p.graph) (marked : IsMarked p) where
       (all-immune (λ card. is_noted q.stored q.held card ≡ true) h (subst (λ b. AllByRecursion (λ o. is_immune b o.place ≡ true) h.objects) (sym sealed) (promoted-immune g.classes (promotion_start (collect g)) (collect g).objects)))
   fork_collected_marks sealed false = marked-collected p (collect g) refl (standing-collect g sealed formed) (outward-held g) marked
 
-  fork_marks : (b : Bool) → g.sealed ≡ b → Marks (fork_by b p)
-  fork_marks true e = fork_collected_marks e (has_zygote_room (collect g))
-  fork_marks false e = marked
+  fork_marks : g.sealed ≡ true → Marks (fork_part p)
+  fork_marks e = fork_collected_marks e (has_zygote_room (collect g))
 
   exit_marks : IsMarked (record p { exited = true })
   exit_marks = record {
@@ -280,7 +279,7 @@ act_marks p (verb.Drop root) few formed m = effect_marks p (drop_held p root) m 
 act_marks p (verb.Show root) few formed m = effect_marks p (show_root p root) m (show_marks p formed m root)
 act_marks p verb.Seal few formed m = seal_marks p formed m p.graph.sealed refl
 act_marks p verb.Gc few formed m = gc_marks p formed m p.graph.sealed refl
-act_marks p (verb.Fork child) few formed m = fork_marks p formed m p.graph.sealed refl
+act_marks p (verb.Fork child) few formed m = m
 act_marks p verb.Exit few formed m = exit_marks p formed m
 act_marks p verb.Free few formed m = m
 act_marks p verb.Pages few formed m = m
@@ -289,6 +288,10 @@ act_marks p verb.Dump few formed m = dump_marks p formed m p.graph.sealed
 
 pub act_sound : (p : Part) (v : Verb) → HasFewFields v → IsSound p → IsSound (act p v).part
 act_sound p v few sound = sound_from (act p v).part (act_keeps p v few sound.formed) (act_marks p v few sound.formed (marked_of p sound))
+
+-- a fork of a sealed process
+pub fork_sound : (p : Part) → p.graph.sealed ≡ true → IsSound p → IsSound (fork_part p).part
+fork_sound p sealed sound = sound_from (fork_part p).part (fork_keeps p sound.formed sealed) (fork_marks p sound.formed (marked_of p sound) sealed)
 
 -- the first part
 pub first_sound : (budget number : ℕ) → 1 ≤ budget → budget ≤ most_regions → number ≤ number_limit → IsSound (first_part budget number)

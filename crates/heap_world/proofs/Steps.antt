@@ -5,7 +5,7 @@ use Rattle.heap_world.specs.declared.command.Command.{Command}
 use Rattle.heap_world.specs.declared.command.Verb.{Verb}
 use Rattle.heap_world.specs.declared.command.Verb.TheVariants as verb
 use Rattle.heap_world.specs.Effect.{Effect}
-use Rattle.heap_world.specs.Acts.{act}
+use Rattle.heap_world.specs.Acts.{act, fork_part}
 use Rattle.heap_world.specs.World.{Process, World, process_named, is_taken, process_after, stepped, child_process, with_child, is_done, fork_done, fork_named, fork_if, step_process, step_live, step_found, step}
 use Rattle.heap_world.proofs.Processes.{or_false, named_name, named-put, named-put_other, taken-put, named-more, named-new, taken-more}
 
@@ -23,7 +23,7 @@ module _ (P : World → Type 0) (w : World) (n : ℕ) (c : Command) (same : P w)
 
         named : (t : Bool) (q : Process) (child : List ℕ) → process_named w.processes c.process ≡ Some q → P (fork_named t w n q child).world
         named true q child is = same
-        named false q child is = forked (is_done (act q.part (verb.Fork child)).reply) q child (act q.part (verb.Fork child)) is
+        named false q child is = forked (is_done (fork_part q.part).reply) q child (fork_part q.part) is
 
         sealed : (s : Bool) (q : Process) (child : List ℕ) → process_named w.processes c.process ≡ Some q → P (fork_if s w n q child).world
         sealed true q child is = named (is_taken w child) q child is

@@ -10,7 +10,7 @@ use Rattle.heap_world.specs.declared.command.Verb.{Verb}
 use Rattle.heap_world.specs.declared.command.Verb.TheVariants as verb
 use Rattle.heap_world.specs.declared.reply.Reply.{Reply}
 use Rattle.heap_world.specs.declared.reply.Refusal.{Refusal}
-use Rattle.heap_world.specs.Acts.{act}
+use Rattle.heap_world.specs.Acts.{act, fork_part}
 use Rattle.heap_world.specs.Effect.{Effect}
 use Rattle.heap_world.specs.Isolation.{Told, child_told, tell, tell_if, told_after, told_by, told_named, told_of_fork, with_forked}
 use Rattle.heap_world.specs.Run.{Line, step_line, world_after}
@@ -98,7 +98,7 @@ module _ (w : World) (l : Line) (ts : List Told) (same : told_names ts ≡ proce
 
     named-fork : (child : List ℕ) (t : Bool) → AreNamed (verb.Fork child) (fork_named t w l.number q child)
     named-fork child true = named-refused (verb.Fork child) _
-    named-fork child false = named-forked child (act q.part (verb.Fork child)) (is_done (act q.part (verb.Fork child)).reply) refl
+    named-fork child false = named-forked child (fork_part q.part) (is_done (fork_part q.part).reply) refl
 
     named-sealed : (child : List ℕ) (s : Bool) → AreNamed (verb.Fork child) (fork_if s w l.number q child)
     named-sealed child true = named-fork child (is_taken w child)

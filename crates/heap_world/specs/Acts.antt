@@ -76,9 +76,9 @@ abbrev pub root_written : Graph → List ℕ → ℕ → Graph
 root_written g root n = record g { roots = write_root g.roots root (held.Object n) }
 
 -- a collection allows 2,048 reads for each noted card
-abbrev pub collection_reads : Bool → Part → ℕ
-collection_reads true p = 2048 * noted_count p.stored p.held
-collection_reads false p = 0
+abbrev pub collection_allowance : Bool → Part → ℕ
+collection_allowance true p = 2048 * noted_count p.stored p.held
+collection_allowance false p = 0
 
 abbrev pub part_after : Bool → Part → Graph → Part
 part_after true p g = with_collected p g
@@ -91,7 +91,7 @@ after_make p root shape (allocated.Made g collected) =
       reply = reply.Made p.graph.next collected;
       made = pages_of_new p.graph.sealed p.graph shape;
       first = [];
-      allowed = line_reads + collection_reads collected p;
+      allowed = line_reads + collection_allowance collected p;
     }
 after_make p root shape (allocated.ImageFull fill size) = refuses p (refusal.ImageFull fill size)
 after_make p root shape (allocated.HeapFull g free needed) =
@@ -100,7 +100,7 @@ after_make p root shape (allocated.HeapFull g free needed) =
       reply = reply.Refused (refusal.HeapFull free needed);
       made = [];
       first = [];
-      allowed = line_reads + collection_reads true p;
+      allowed = line_reads + collection_allowance true p;
     }
 
 -- numbers are below 268,435,456
@@ -297,26 +297,26 @@ gc_to p g =
       reply = reply.Kept (loose_count g) (freed_count p.graph g);
       made = [];
       first = [];
-      allowed = line_reads + collection_reads true p;
+      allowed = line_reads + collection_allowance true p;
     }
 
 abbrev pub gc_if : Bool → Part → Effect
 gc_if false p = refuses p refusal.NotSealed
 gc_if true p = gc_to p (collect p.graph)
 
--- fork, after the test of the name
+-- fork, of a sealed process whose child's name is free
 
 -- a fork allows 4,096 reads for each noted card
-abbrev pub fork_reads : Part → ℕ
-fork_reads p = 4096 * noted_count p.stored p.held
+abbrev pub fork_allowance : Part → ℕ
+fork_allowance p = 4096 * noted_count p.stored p.held
 
 -- for an object, four reads per 4-byte word and 16
-abbrev pub object_reads : List Class → Object → ℕ
-object_reads cs o = 4 * (size_of_object cs o / 4) + 16
+abbrev pub object_allowance : List Class → Object → ℕ
+object_allowance cs o = 4 * (size_of_object cs o / 4) + 16
 
 -- a fork allows so many for each object that it promotes
-abbrev pub promotion_reads : Graph → ℕ
-promotion_reads g = sum (map (object_reads g.classes) (young_objects g))
+abbrev pub promotion_allowance : Graph → ℕ
+promotion_allowance g = sum (map (object_allowance g.classes) (young_objects g))
 
 -- the pages of the zygote window that a fork makes
 abbrev pub fork_pages : Graph → List PageName
@@ -329,7 +329,7 @@ fork_collected true p g =
       reply = reply.Done;
       made = fork_pages g;
       first = [];
-      allowed = line_reads + fork_reads p + promotion_reads g;
+      allowed = line_reads + fork_allowance p + promotion_allowance g;
     }
 fork_collected false p g =
     record {
@@ -337,20 +337,16 @@ fork_collected false p g =
       reply = reply.Refused (refusal.ZygoteFull (promotion_start g) (promotion_bytes g));
       made = [];
       first = [];
-      allowed = line_reads + fork_reads p;
+      allowed = line_reads + fork_allowance p;
     }
 
 -- the process promotes the objects of the collected graph, where they fit
 abbrev pub fork_to : Part → Graph → Effect
 fork_to p g = fork_collected (has_zygote_room g) p g
 
+-- a process that forks collects first
 abbrev pub fork_part : Part → Effect
 fork_part p = fork_to p (collect p.graph)
-
--- only a sealed process forks
-abbrev pub fork_by : Bool → Part → Effect
-fork_by false p = refuses p refusal.NotSealed
-fork_by true p = fork_part p
 
 -- dump
 
@@ -359,8 +355,8 @@ abbrev pub dump_counted : Graph → Graph
 dump_counted g = record g { dumps = min (g.dumps + 1) (2 ^ 32 - 1) }
 
 -- a dump allows so many reads for each object of the image and of the zygote window
-abbrev pub dump_reads : Graph → ℕ
-dump_reads g = sum (map (object_reads g.classes) (filter (λ o. in_spot_window o.place) g.objects))
+abbrev pub dump_allowance : Graph → ℕ
+dump_allowance g = sum (map (object_allowance g.classes) (filter (λ o. in_spot_window o.place) g.objects))
 
 abbrev pub dump_to : Part → Graph → Effect
 dump_to p g =
@@ -369,7 +365,7 @@ dump_to p g =
       reply = reply.Dumped g.dumps (length g.objects);
       made = [];
       first = [];
-      allowed = line_reads + dump_reads g;
+      allowed = line_reads + dump_allowance g;
     }
 
 -- only a sealed process is dumped
@@ -384,7 +380,7 @@ page_counts p =
     reply.Pages (length (image_pages p.graph)) (count_by is_image_page p.touched) (length (zygote_pages p.graph)) (count_by is_zygote_page p.touched)
     (length (promoted_pages p.graph)) (count_by is_large_page p.touched)
 
--- a command of a process. The test of a fork for the name, and the count of frames, stand with the world
+-- a command of a process. A fork and the count of frames look beyond it: they stand with the world, and do nothing here
 abbrev pub act : Part → Verb → Effect
 act p (verb.Class name parent fields) = after_define p (define_class p.graph.classes name parent fields)
 act p (verb.New root class) = new_of_class p root (number_of p.graph.classes class)
@@ -401,7 +397,7 @@ act p (verb.Drop root) = effect_or p (drop_held p root)
 act p (verb.Show root) = effect_or p (show_root p root)
 act p verb.Seal = seal_if p.graph.sealed p
 act p verb.Gc = gc_if p.graph.sealed p
-act p (verb.Fork child) = fork_by p.graph.sealed p
+act p (verb.Fork child) = tells p reply.Done
 act p verb.Exit = tells (record p { exited = true }) reply.Done
 act p verb.Free = tells p (reply.Regions (free p.graph))
 act p verb.Pages = tells p (page_counts p)

@@ -16,7 +16,7 @@ use Rattle.heap_world.specs.declared.names.PageName.{PageName}
 use Rattle.heap_world.specs.Pages.{same_page, standing_pages, own_page_count}
 use Rattle.heap_world.specs.Part.{Part, first_part}
 use Rattle.heap_world.specs.Effect.{Effect}
-use Rattle.heap_world.specs.Acts.{act}
+use Rattle.heap_world.specs.Acts.{act, fork_part}
 
 -- a process: its name, its part, and its labels, the newest first
 pub record Process : Type 0 where
@@ -117,8 +117,9 @@ fork_done false w line q name e = stepped w line q e
 
 abbrev pub fork_named : Bool → World → ℕ → Process → List ℕ → Stepped
 fork_named true w line q name = refused w refusal.ProcessTaken
-fork_named false w line q name = let e = act q.part (verb.Fork name) in fork_done (is_done e.reply) w line q name e
+fork_named false w line q name = let e = fork_part q.part in fork_done (is_done e.reply) w line q name e
 
+-- the refusals of a fork in their order: the process isn't sealed, the name is taken, the zygote window is full
 abbrev pub fork_if : Bool → World → ℕ → Process → List ℕ → Stepped
 fork_if false w line q name = refused w refusal.NotSealed
 fork_if true w line q name = fork_named (is_taken w name) w line q name

@@ -1,5 +1,5 @@
 //! What every command keeps of a process's graph.
-ghost use Rattle.std.specs.Prelude.{◌≡◌, ◌+◌, ◌≤◌, ℕ, List};
+ghost use Rattle.std.specs.Prelude.{◌≡◌, ◌+◌, ◌≤◌, ℕ, List, true};
 ghost use Rattle.model_numbers.specs.Numbers.{most_regions, number_limit};
 ghost use Rattle.class_layout.specs.ClassList.{Class, IsClassList};
 ghost use Rattle.class_layout.specs.Kinds.{kind_bytes};
@@ -10,15 +10,16 @@ ghost use Rattle.heap_graph.specs.Packing.{places_from, young_sizes};
 ghost use Rattle.heap_graph.specs.Paths.{ArePacked};
 ghost use Rattle.heap_graph.specs.Sizes.{unrounded};
 ghost use Rattle.heap_graph.specs.declared.names.Shape.{Shape};
-ghost use Rattle.heap_world.specs.Acts.{act};
+ghost use Rattle.heap_world.specs.Acts.{act, fork_part};
 ghost use Rattle.heap_world.specs.Formed.{HasFewFields, HasSlot, IsFormed, is_referent};
 ghost use Rattle.heap_world.specs.Part.{Part};
 ghost use Rattle.heap_world.specs.declared.command.Verb.{Verb};
 
-/// The graph of each process is formed: it is at first, every command keeps it, and a child's is its parent's.
+/// The graph of each process is formed: it is at first, every command and every fork keeps it, and a child's is its parent's.
 pub fn graphs_are_formed()
     ensures first { (budget number : ℕ) → budget ≤ most_regions → number ≤ number_limit → IsFormed (first_graph budget number) }
     ensures act { (p : Part) (v : Verb) → HasFewFields v → IsFormed p.graph → IsFormed (act p v).part.graph }
+    ensures fork { (p : Part) → p.graph.sealed ≡ true → IsFormed p.graph → IsFormed (fork_part p).part.graph }
     ensures child { (g : Graph) → IsFormed g → IsFormed (child_of g) }
 {}
 

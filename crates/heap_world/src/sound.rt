@@ -1,21 +1,22 @@
 //! What every command keeps of a process, and the bounds that follow.
-ghost use Rattle.std.specs.Prelude.{◌+◌, ◌*◌, ◌<◌, ◌≤◌, ℕ, All, length, sum};
+ghost use Rattle.std.specs.Prelude.{◌+◌, ◌*◌, ◌<◌, ◌≤◌, ℕ, All, length, sum, ◌≡◌, true};
 ghost use Rattle.model_numbers.specs.Numbers.{image_length, zygote_length, region_bytes, most_array_bytes, most_regions, number_limit};
 ghost use Rattle.heap_graph.specs.Fork.{child_of};
 ghost use Rattle.heap_graph.specs.Graph.{Graph, image_fill, zygote_fill};
 ghost use Rattle.heap_graph.specs.Packing.{costs, used, young_sizes};
 ghost use Rattle.heap_graph.specs.Sizes.{unrounded};
-ghost use Rattle.heap_world.specs.Acts.{act};
+ghost use Rattle.heap_world.specs.Acts.{act, fork_part};
 ghost use Rattle.heap_world.specs.Formed.{HasFewFields, IsFormed};
 ghost use Rattle.heap_world.specs.Pages.{promoted_pages};
 ghost use Rattle.heap_world.specs.Part.{Part, first_part};
 ghost use Rattle.heap_world.specs.Sound.{IsSound};
 ghost use Rattle.heap_world.specs.declared.command.Verb.{Verb};
 
-/// Each process is sound: it is at first, every command keeps it, and a child is as its parent.
+/// Each process is sound: it is at first, every command and every fork keeps it, and a child is as its parent.
 pub fn parts_are_sound()
     ensures first { (budget number : ℕ) → 1 ≤ budget → budget ≤ most_regions → number ≤ number_limit → IsSound (first_part budget number) }
     ensures act { (p : Part) (v : Verb) → HasFewFields v → IsSound p → IsSound (act p v).part }
+    ensures fork { (p : Part) → p.graph.sealed ≡ true → IsSound p → IsSound (fork_part p).part }
     ensures child { (p : Part) → IsSound p → IsSound (record p { graph = child_of p.graph }) }
 {}
 

@@ -1,4 +1,5 @@
--- Reading fields from left to right: a value and the bytes after it, or what stops the reading.
+-- Reading fields from left to right: a value and the bytes after it, or what stops the reading. These are words of the
+-- code, which private functions are proved to follow; no contract for other crates needs them.
 use Rattle.std.specs.Prelude.{◌≡◌, ℕ, zero, suc, ◌*◌, ◌-◌, ◌≤◌, Bool, true, false, nat_eq, nat_le, nat_lt, List, [], ◌∷◌, length, take, drop, Option, Some, None, Result, Ok, Err, if◌then◌else◌}
 use Rattle.std.specs.Int.{Width, w8, w16, w32, byte_len, from_be_bytes}
 use Rattle.hprof_records.specs.declared.sub_record.SubRecord.{SubRecord}
@@ -24,11 +25,12 @@ abbrev pub ◌>>=◌ : {A B : Type 0} → Result A Stop → (A → Result B Stop
 (Ok x) >>= f = f x
 (Err e) >>= f = Err e
 
--- what a function returned, seen by view, is what reading gives, unless memory ran out
+-- reading stopped so, unless memory ran out
 abbrev pub Fails : {Y : Type 0} → Halt → Result Y Stop → Type 0
 Fails halts.OutOfMemory read = Unit {0}
 Fails (halts.Stopped s) read = read ≡ Err s
 
+-- what a function returned, seen by view, is what reading gives, unless memory ran out
 abbrev pub Gives : {X Y : Type 0} → (X → Y) → Result X Halt → Result Y Stop → Type 0
 Gives view (Ok x) read = read ≡ Ok (view x)
 Gives view (Err e) read = Fails e read

@@ -1,2 +1,13 @@
 pub mod Appends
 pub mod TableLines
+pub mod RecordBytes
+pub mod Chains
+pub mod Fillings
+pub mod ValuesAt
+pub mod RecordRuns
+pub mod Texts
+pub mod InstancePlaces
+pub mod Windows
+pub mod ArrayParts
+pub mod DumpReads
+pub mod ItemRuns

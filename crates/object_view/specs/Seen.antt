@@ -1,5 +1,5 @@
 -- What a dump sees of a heap: a graph whose references are addresses.
-use Rattle.std.specs.Prelude.{◌≡◌, ℕ, ◌+◌, ◌≤◌, Bool, true, false, ◌&&◌, ◌||◌, List, Option, None, Some, nat_le, nat_lt, ℤ, pos}
+use Rattle.std.specs.Prelude.{◌≡◌, ◌≢◌, ℕ, ◌+◌, ◌<◌, ◌≤◌, slice_get, Bool, true, false, ◌&&◌, ◌||◌, List, Option, None, Some, nat_le, nat_lt, ℤ, pos}
 use Rattle.std.specs.List.{list_any}
 use Rattle.model_numbers.specs.Numbers.{image_base, image_length, zygote_base, zygote_length}
 use Rattle.class_layout.specs.declared.kind.Kind.{Kind}
@@ -53,10 +53,13 @@ pub record HasValue (g : Graph) (table : ℕ → ℕ) (at : ℕ) (kind : Kind) (
   pub at_is : table o.number ≡ at
   pub is_place : IsPlace g.classes o.shape kind offset place
 
--- what a view says of its graph and table: the classes of the objects are there, no object is too large, and the table fits
+-- what a view says of its graph and table: the objects stand by rising number, their classes are there, none is too large,
+-- none stands at the address of null, and the table fits
 pub record IsShown (g : Graph) (table : ℕ → ℕ) : Type 0 where
+  pub rising : (i j : ℕ) (a b : Object) → i < j → slice_get g.objects i ≡ Some a → slice_get g.objects j ≡ Some b → a.number < b.number
   pub known : (o : Object) → IsIn o g.objects → IsKnown g.classes o.shape
   pub small : (o : Object) → IsIn o g.objects → is_too_large g.classes o.shape ≡ false
+  pub not_null : (o : Object) → IsIn o g.objects → table o.number ≢ 0
   pub fits : Fits table g
 
 -- an address lies in the image or in the zygote window

@@ -12,7 +12,7 @@ use heap_world::{Reply, Verb};
 use std::alloc::AllocError;
 
 impl Part {
-    /// What a command does. The test of a fork for the child's name, and the count of frames, stand with the machine.
+    /// What a command does. Forks and the count of frames stand with the machine, and do nothing here.
     pub(crate) fn act(&self, verb: &Verb) -> Result<Outcome, AllocError>
         requires sound { IsSound self.now }
         requires few { HasFewFields verb.now }
@@ -44,7 +44,7 @@ impl Part {
             Verb::Show { root } => Ok(self.show(root)),
             Verb::Seal => self.seal(),
             Verb::Gc => self.collect(),
-            Verb::Fork { .. } => self.fork(),
+            Verb::Fork { .. } => Ok(self.tells(Reply::Done)),
             Verb::Exit => self.exit(),
             Verb::Free => Ok(self.free()),
             Verb::Pages => self.pages(),

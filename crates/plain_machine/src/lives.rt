@@ -4,7 +4,7 @@ ghost use Rattle.std.specs.List.{flat_map};
 ghost use Rattle.model_numbers.specs.Numbers.{number_limit};
 ghost use Rattle.heap_graph.specs.Collection.{collect, loose_count};
 ghost use Rattle.heap_graph.specs.Packing.{free};
-ghost use Rattle.heap_world.specs.Acts.{fork_by, fork_to, fork_pages, gc_if, gc_to, page_counts, seal_if};
+ghost use Rattle.heap_world.specs.Acts.{fork_part, fork_to, fork_pages, gc_if, gc_to, page_counts, seal_if};
 ghost use Rattle.heap_world.specs.Effect.{tells};
 ghost use Rattle.heap_world.specs.Formed.{IsFormed};
 ghost use Rattle.heap_world.specs.Pages.{image_pages, pages_if_promoted, promoted_pages, zygote_pages};
@@ -121,14 +121,12 @@ impl Part {
         Ok(graph)
     }
 
-    /// What a fork does to the process that forks.
+    /// What a fork does to the process that forks, which is sealed.
     pub(crate) fn fork(&self) -> Result<Outcome, AllocError>
         requires sound { IsSound self.now }
-        ensures { IfOk result (λ out. IsOutcome self.now out (fork_by self.now.graph.sealed self.now)) }
+        requires sealed { self.now.graph.sealed ≡ true }
+        ensures { IfOk result (λ out. IsOutcome self.now out (fork_part self.now)) }
     {
-        if !self.graph.is_sealed() {
-            return Ok(self.refuses(Refusal::NotSealed));
-        }
         self.fork_to(self.collected()?)
     }
 

@@ -169,7 +169,7 @@ impl Machine {
         if is_taken(&self.processes, child) {
             return Ok(Reply::Refused(Refusal::ProcessTaken));
         }
-        let outcome = q.act(&Verb::Fork { child: *child })?;
+        let outcome = q.fork()?;
         let labels = q.labels_after(line, &outcome)?;
         match outcome.reply {
             Reply::Done => self.end_fork(i, *child, outcome.next, labels)?,

@@ -1,6 +1,6 @@
-ghost use Rattle.std.specs.Prelude.{◌≡◌, ◌++◌, [], IfOk, IfSome, OnOk, unwrap_or};
+ghost use Rattle.std.specs.Prelude.{◌≡◌, ◌++◌, [], true, IfOk, IfSome, OnOk, unwrap_or};
 ghost use Rattle.heap_world.specs.World.{child_process, labelled};
-ghost use Rattle.heap_world.specs.Acts.{act};
+ghost use Rattle.heap_world.specs.Acts.{act, fork_part};
 ghost use Rattle.heap_world.specs.Formed.{HasFewFields};
 ghost use Rattle.heap_world.specs.Sound.{IsSound};
 ghost use Rattle.plain_machine.specs.Outcomes.{IsOutcome};
@@ -62,6 +62,18 @@ impl Process {
     {
         parts_are_sound();
         let outcome = self.part.act(verb)?;
+        Ok(outcome)
+    }
+
+    /// What a fork does to the process, which is sealed. The part after it is sound.
+    pub(crate) fn fork(&self) -> Result<Outcome, AllocError>
+        requires sound { IsSound self.now.part }
+        requires sealed { self.now.part.graph.sealed ≡ true }
+        ensures done { IfOk result (λ out. IsOutcome self.now.part out (fork_part self.now.part)) }
+        ensures sound { IfOk result (λ out. IfSome out.next (λ p. IsSound p)) }
+    {
+        parts_are_sound();
+        let outcome = self.part.fork()?;
         Ok(outcome)
     }
 

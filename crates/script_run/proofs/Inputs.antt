@@ -1,10 +1,10 @@
 -- A run of a script from a source: how it begins, goes on, ends, and stops.
-use Rattle.std.proofs.Common.{◌≡◌, inl, inr, ℕ, ◌+◌, ◌<◌, ◌≤◌, Bool, true, false, List, [], ◌∷◌, ◌++◌, Option, None, Some, Result, Ok, Err, MatchResult, length, map, take, drop, refl, sym, ◌∙◌, ap, subst, arith, append_assoc, length-append}
-use Rattle.std.specs.Prelude.{IfSome, ◌↔◌, nat_lt}
+use Rattle.std.proofs.Common.{◌≡◌, inl, inr, ℕ, ◌+◌, ◌<◌, ◌≤◌, Bool, true, false, List, [], ◌∷◌, ◌++◌, Option, Result, Ok, Err, MatchResult, length, map, take, drop, refl, sym, ◌∙◌, ap, subst, arith, append_assoc, length-append}
+use Rattle.std.specs.Prelude.{nat_lt}
 use Rattle.std.proofs.lemmas.Bool.{ltb-false}
 use Rattle.std.proofs.lemmas.List.{append-nil, take-append-drop}
 use Rattle.std.proofs.Math.Seq.{take-append-add}
-use Rattle.ah_outside.specs.Outside.{FaultRose, Gave, Gained}
+use Rattle.ah_outside.specs.Outside.{FaultRose, Gave}
 use Rattle.heap_world.specs.Isolation.{NoNameTaken}
 use Rattle.heap_world.specs.World.{World, first_world}
 use Rattle.model_numbers.specs.Numbers.{input_limit, piece_bytes}
@@ -15,13 +15,14 @@ use Rattle.script_lang.proofs.PartsLemmas.{whole_lines-last}
 use Rattle.script_report.specs.Own.{AreAloneIn, told_by_script}
 use Rattle.script_report.specs.Report.{answers, last_world}
 use Rattle.script_run.specs.declared.input.Progress.{Progress}
-use Rattle.script_run.specs.declared.stop.Stop.{Stop}
-use Rattle.script_run.specs.declared.stop.Stop.TheVariants.{Read, Write, Memory, TooLong}
-use Rattle.script_run.specs.Ends.{CameTo, EndedRun, NothingLeft, RanLines, StoppedForMemory, StoppedReading, TookTooMany}
+use Rattle.job_status.specs.declared.stop.Stop.{Stop}
+use Rattle.job_status.specs.declared.stop.Stop.TheVariants.{Read, Write, Memory, TooLong}
+use Rattle.script_run.specs.Ends.{CameTo, EndedRun, RanLines, StoppedForMemory, TookTooMany}
 use Rattle.script_run.specs.Outside.{Outside, outside_of, output_of}
 use Rattle.script_run.specs.Progress.{HasRun, HasRunLines, HasTaken, StoppedIn, StoppedLast}
-use Rattle.script_run.specs.Status.{job_status, refused_status, stop_status}
-use Rattle.script_run.proofs.Outside.{FaultRose-earlier, Gained-none, Gave-more, Gave-none}
+use Rattle.job_status.specs.Inputs.{NothingLeft}
+use Rattle.job_status.specs.Status.{job_status, refused_status, stop_status}
+use Rattle.job_status.proofs.Outside.{FaultRose-earlier, Gained-none, Gave-more, Gave-none}
 
 -- no line was run
 lines_begin : (budget : ℕ) (gained : Option (List ℕ)) (writes : ℕ) (m m' : World) → StandsFor m' (first_world budget 1)
@@ -66,14 +67,6 @@ turn_goes_on budget run run' bytes old mid new h gave falls fewer ran = record {
   has_run = ran;
   counted = omega (arith, h.counted, falls);
 }
-
--- nothing was given, and so nothing is left
-pub nothing_given : (n : ℕ) (bytes : List ℕ) (old new : Option (List ℕ)) → Gave old bytes new → IfSome old (λ rest. (n ≡ 0) ↔ (rest ≡ [])) → n ≡ 0 → bytes ≡ [] → NothingLeft new
-nothing_given n bytes old None gave end none empty = tt
-nothing_given n bytes None (Some rest) gave end none empty = absurd (cc (gave))
-nothing_given n bytes (Some all) (Some rest) gave end none empty =
-    let is : all ≡ bytes ++ rest = cc (gave) in
-    ap (λ (xs : List ℕ). xs ++ rest) (sym empty) ∙ (sym is ∙ end.0 none)
 
 -- nothing came
 pub not_more : (n : ℕ) → nat_lt 0 n ≡ false → n ≡ 0

@@ -1,5 +1,4 @@
 pub mod Inputs
 pub mod LastLine
 pub mod Lines
-pub mod Outside
 pub mod Pieces

@@ -8,11 +8,11 @@ use Rattle.plain_machine.specs.Worlds.{StandsFor}
 use Rattle.script_lang.specs.Texts.{reply_line}
 use Rattle.script_report.specs.Report.{answers_of, has_refusal, line_report, report_of, step_line, with_answer, world_of}
 use Rattle.script_report.proofs.Reports.{has_refusal-one, next_answers, refusal-more, report-more, report_of-one, world-more}
-use Rattle.script_run.specs.declared.stop.Stop.{Stop}
-use Rattle.script_run.specs.declared.stop.Stop.TheVariants.{Read, Write, Memory, TooLong}
+use Rattle.job_status.specs.declared.stop.Stop.{Stop}
+use Rattle.job_status.specs.declared.stop.Stop.TheVariants.{Read, Write, Memory, TooLong}
 use Rattle.script_run.specs.Outside.{Output}
 use Rattle.script_run.specs.Progress.{HasRunLines, PutInPart, RanLine, StoppedBehind, StoppedLine}
-use Rattle.script_run.proofs.Outside.{FaultRose-earlier, Gained-more}
+use Rattle.job_status.proofs.Outside.{FaultRose-earlier, Gained-more}
 
 -- the reply of a line was put whole
 pub put_whole : (n : ℕ) (o : Option Reply) (r : Reply) (after : World) (refused : Bool) (old new : Output)

@@ -1,5 +1,5 @@
 -- A run of a script goes on by what a feed takes of a piece.
-use Rattle.std.proofs.Common.{◌≡◌, ℕ, ◌+◌, ◌-◌, ◌<◌, ◌≤◌, ◌||◌, Bool, true, false, List, [], ◌∷◌, ◌++◌, Some, length, length-drop, take, drop, refl, sym, ◌∙◌, ap, subst, arith, append_assoc, length-append}
+use Rattle.std.proofs.Common.{◌≡◌, ℕ, ◌+◌, ◌-◌, ◌<◌, ◌||◌, Bool, true, false, List, [], ◌∷◌, ◌++◌, Some, length, length-drop, take, drop, refl, sym, ◌∙◌, ap, subst, arith, append_assoc, length-append}
 use Rattle.std.proofs.lemmas.List.{append-nil, take-append-drop, take_all}
 use Rattle.std.proofs.Math.Seq.{take-add}
 use Rattle.std.specs.Prelude.{if◌then◌else◌}
@@ -7,7 +7,7 @@ use Rattle.script_lang.specs.Feeding.{Feed, first_part, has_line_feed, kept_line
 use Rattle.script_lang.specs.Parts.{is_byte, parts}
 use Rattle.script_lang.proofs.FeedingLemmas.{OnePart-first_part, parts-ended, take-taken}
 use Rattle.script_lang.proofs.PartsLemmas.{lines-ended, parts-append, whole_lines-last}
-use Rattle.script_run.specs.declared.stop.Stop.{Stop}
+use Rattle.job_status.specs.declared.stop.Stop.{Stop}
 use Rattle.script_run.specs.Outside.{Output}
 use Rattle.script_run.specs.Progress.{HasRun, HasRunLines, StoppedBehind, StoppedIn}
 

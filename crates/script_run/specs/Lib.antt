@@ -1,4 +1,3 @@
 pub mod Ends
 pub mod Outside
 pub mod Progress
-pub mod Status

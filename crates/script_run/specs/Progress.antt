@@ -9,8 +9,8 @@ use Rattle.script_lang.specs.Feeding.{Feed, kept_line}
 use Rattle.script_lang.specs.Parts.{is_byte, lines, parts, whole_lines}
 use Rattle.script_report.specs.Report.{answers_of, has_refusal, report_of}
 use Rattle.script_run.specs.declared.input.Progress.{Progress}
-use Rattle.script_run.specs.declared.stop.Stop.{Stop}
-use Rattle.script_run.specs.declared.stop.Stop.TheVariants.{Read, Write, Memory, TooLong}
+use Rattle.job_status.specs.declared.stop.Stop.{Stop}
+use Rattle.job_status.specs.declared.stop.Stop.TheVariants.{Read, Write, Memory, TooLong}
 use Rattle.script_run.specs.Ends.{PutBehind, RanLines}
 use Rattle.script_run.specs.Outside.{Outside, Output}
 

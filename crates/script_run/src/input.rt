@@ -1,15 +1,16 @@
 //! The input: it is taken piece by piece, up to its end or its limit.
 ghost use Rattle.std.specs.Prelude.{◌≡◌, ◌<◌, ◌≤◌, ℕ, false, true, length, MatchResult, IfOk, OnOk};
 ghost use Rattle.model_numbers.specs.Numbers.{input_limit, piece_bytes};
-ghost use Rattle.script_run.specs.Ends.{EndedRun, NothingLeft};
+ghost use Rattle.job_status.specs.Inputs.{NothingLeft};
+ghost use Rattle.script_run.specs.Ends.{EndedRun};
 ghost use Rattle.script_run.specs.Outside.{Outside, outside_of};
 ghost use Rattle.script_run.specs.Progress.{HasTaken, IsGoing};
-ghost use Rattle.script_run.specs.Status.{stop_status};
+ghost use Rattle.job_status.specs.Status.{stop_status};
 
 use crate::Machine;
 use crate::piece::run_piece;
-use crate::stop::Stop;
 use ah_outside::{Sink, Source};
+use job_status::Stop;
 use model_numbers::PIECE_BYTES;
 use script_lang::LineFeed;
 use std::alloc::Global;

@@ -6,11 +6,7 @@ mod input;
 mod line;
 mod piece;
 mod script;
-mod status;
-mod stop;
 
 pub use line::step_line;
 pub use plain_machine::Machine;
 pub use script::run_script;
-pub use status::Status;
-pub use stop::{Stop, job_status};

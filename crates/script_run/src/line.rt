@@ -11,8 +11,8 @@ ghost use Rattle.script_run.specs.Outside.{Output, output_of};
 ghost use Rattle.script_run.specs.Progress.{HasRunLines, RanLine, StoppedBehind, StoppedLine};
 
 use crate::Machine;
-use crate::stop::Stop;
 use ah_outside::{Failed, Sink, put_all};
+use job_status::Stop;
 use model_numbers::LINE_LIMIT;
 use script_lang::{Fed, LineError, LineFeed, Refusal, Reply, read_line, reply_text};
 use std::alloc::{AllocError, Global};

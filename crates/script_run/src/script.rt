@@ -7,13 +7,13 @@ ghost use Rattle.script_lang.specs.Parts.{lines};
 ghost use Rattle.script_run.specs.Ends.{EndedRun};
 ghost use Rattle.script_run.specs.Outside.{Output, outside_of, output_of};
 ghost use Rattle.script_run.specs.Progress.{HasRun, HasRunLines, IsGoing, StoppedLast};
-ghost use Rattle.script_run.specs.Status.{job_status};
+ghost use Rattle.job_status.specs.Status.{job_status};
 
 use crate::Machine;
 use crate::input::{Progress, run_input};
 use crate::line::run_line;
-use crate::stop::Stop;
 use ah_outside::{Sink, Source};
+use job_status::Stop;
 use model_numbers::INPUT_LIMIT;
 use script_lang::LineFeed;
 use script_report::scripts_are_isolated;

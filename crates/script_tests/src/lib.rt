@@ -10,6 +10,8 @@ mod feeding;
 #[cfg(test)]
 mod making;
 #[cfg(test)]
+mod reading;
+#[cfg(test)]
 mod records;
 #[cfg(test)]
 mod rows;
@@ -19,3 +21,5 @@ mod runs;
 mod sessions;
 #[cfg(test)]
 mod soaks;
+#[cfg(test)]
+mod wanted;

@@ -2,7 +2,7 @@ use Rattle.std.proofs.Common.{◌≡◌, ℕ, Bool, true, false, List, Option, N
 use Rattle.std.proofs.lemmas.Bool.{both_ways}
 use Rattle.heap_world.specs.declared.command.Verb.TheVariants as verb
 use Rattle.heap_world.specs.declared.reply.Reply.TheVariants as reply
-use Rattle.heap_world.specs.Acts.{act}
+use Rattle.heap_world.specs.Acts.{fork_part}
 use Rattle.heap_world.specs.Effect.{Effect}
 use Rattle.heap_world.specs.World.{Process, World, Stepped, child_process, process_named, is_taken, is_done, fork_done, fork_named, fork_if, step_live, step_found}
 use Rattle.heap_world.proofs.Steps.{parent_named, child_named}
@@ -24,7 +24,7 @@ module _ (w : World) (n : ℕ) (parent child : List ℕ) where
 
       named : (t : Bool) → is_taken w child ≡ t → IsForked (fork_named t w n q child)
       named true t = λ h. cc
-      named false t = forked t (act q.part (verb.Fork child)) (is_done (act q.part (verb.Fork child)).reply) refl
+      named false t = forked t (fork_part q.part) (is_done (fork_part q.part).reply) refl
 
       sealed : (s : Bool) → IsForked (fork_if s w n q child)
       sealed true = named (is_taken w child) refl

@@ -1,0 +1,40 @@
+use Rattle.std.proofs.Common.{◌≡◌, ℕ, List, ◌++◌}
+use Rattle.std.specs.List.{slice_get}
+use Rattle.ah_outside.specs.Outside.{Shelved}
+use Rattle.class_layout.specs.ClassList.{Class}
+use Rattle.hprof_records.specs.Parts.{bytes_of_part}
+use Rattle.hprof_records.specs.Records.{bytes_of_records}
+use Rattle.hprof_write.specs.Classes.{class_dump}
+use Rattle.hprof_write.specs.Outcomes.{AppendedPrefix}
+use Rattle.hprof_write.specs.Segments.{with_item, with_room, Bare, Filling, IsCurrent, IsFilled}
+use Rattle.hprof_write.proofs.Appends.{AppendedBut-stopped}
+use Rattle.hprof_write.proofs.Chains.{some-and-is}
+use Rattle.hprof_write.proofs.Fillings.{part-put}
+use Rattle.hprof_write.proofs.TableLines.{on_err-always}
+use Rattle.hprof_write.proofs.dump.put_class_item.Goals as goal
+
+pub returns-in_err-put_class-clause-failed : goal.returns-in_err-put_class-clause-failed
+returns-in_err-put_class-clause-failed g c =
+    let now = g.F.Shelf.shelved c.make_room.new.shelf in
+    let P : Type 0 = (start : Shelved) (front : List ℕ) (f : Filling) → IsFilled start front f c.args.waiting.now.items (g.F.Shelf.shelved c.args.shelf.now)
+    → IsCurrent f c.args.current.now.body.items c.args.current.now.objects c.args.current.now.heap
+    → AppendedPrefix start (front ++ bytes_of_records (with_room f).done) now in
+    on_err-always P c.from_residual-in_err-put_class.result
+    (λ start front f filled cur.
+    AppendedBut-stopped start now (front ++ bytes_of_records (with_room f).done) c.make_room.new.waiting.items (c.in_ok-make_room.ensures.ok start front f filled cur).0)
+
+pub returns-clause-ok : goal.returns-clause-ok
+returns-clause-ok g c =
+    λ start front f filled cur.
+    let ss = c.args.strings.now.keys in
+    let cs = c.args.classes.now in
+    let k = c.args.class in
+    let body = c.make_room.new.current.body.items in
+    let next = c.put_class.new.out.items in
+    let room = c.in_ok-make_room.ensures.ok start front f filled cur in
+    let Put : Class → Type 0 = λ x. next ≡ body ++ bytes_of_part (class_dump ss cs k x) in
+    let Is : Class → Type 0 = λ x. IsFilled start front (with_item ss f (Bare (class_dump ss cs k x))) c.make_room.new.waiting.items (g.F.Shelf.shelved c.make_room.new.shelf)
+    × IsCurrent (with_item ss f (Bare (class_dump ss cs k x))) next c.make_room.new.current.objects c.make_room.new.current.heap in
+    some-and-is Put Is (slice_get cs k)
+    (λ x put. (room.0, part-put (with_room f) (class_dump ss cs k x) body next c.make_room.new.current.objects c.make_room.new.current.heap put room.1))
+    c.in_ok-put_class.ensures
