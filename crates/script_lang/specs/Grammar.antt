@@ -74,6 +74,7 @@ alone_entries =
     ∷ record { word = codes "free"; meaning = alone verb.Free }
     ∷ record { word = codes "pages"; meaning = alone verb.Pages }
     ∷ record { word = codes "frames"; meaning = alone verb.Frames }
+    ∷ record { word = codes "dump"; meaning = alone verb.Dump }
     ∷ []
 
 -- those with one

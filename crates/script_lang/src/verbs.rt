@@ -22,6 +22,7 @@ fn alone_verb(word: &[u8]) -> Option<Verb>
         b"free" => Some(Verb::Free),
         b"pages" => Some(Verb::Pages),
         b"frames" => Some(Verb::Frames),
+        b"dump" => Some(Verb::Dump),
         _ => None,
     }
 }

@@ -1,3 +1,4 @@
+pub mod Dumps
 pub mod Inputs
 pub mod LastLine
 pub mod Lines

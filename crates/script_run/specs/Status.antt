@@ -1,9 +1,11 @@
 -- The status of each ending, and its number.
 use Rattle.std.specs.Prelude.{ℕ, Bool, true, false, Result, Ok, Err}
+use Rattle.hprof_write.specs.declared.error.DumpError.{DumpError}
+use Rattle.hprof_write.specs.declared.error.DumpError.TheVariants.{ShelfFault, OutOfMemory}
 use Rattle.script_run.specs.declared.status.Status.{Status}
 use Rattle.script_run.specs.declared.status.Status.TheVariants as status
 use Rattle.script_run.specs.declared.stop.Stop.{Stop}
-use Rattle.script_run.specs.declared.stop.Stop.TheVariants.{Read, Write, Memory, TooLong}
+use Rattle.script_run.specs.declared.stop.Stop.TheVariants.{Read, Write, Shelf, Memory, TooLong}
 
 -- the exit status
 abbrev pub status_code : Status → ℕ
@@ -21,6 +23,7 @@ status_code status.TooLong = 8
 abbrev pub stop_status : Stop → Status
 stop_status Read = status.ReadFault
 stop_status Write = status.WriteFault
+stop_status Shelf = status.ShelfFault
 stop_status Memory = status.OutOfMemory
 stop_status TooLong = status.TooLong
 
@@ -33,3 +36,8 @@ refused_status false = status.Ok
 abbrev pub job_status : Result Bool Stop → Status
 job_status (Ok refused) = refused_status refused
 job_status (Err stop) = stop_status stop
+
+-- why a job stops whose dump wasn't written whole
+abbrev pub dump_stop : DumpError → Stop
+dump_stop ShelfFault = Shelf
+dump_stop OutOfMemory = Memory

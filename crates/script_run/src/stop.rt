@@ -2,6 +2,7 @@ ghost use Rattle.std.specs.Prelude.{◌≡◌};
 ghost use Rattle.script_run.specs.Status.{job_status, refused_status, stop_status};
 
 use crate::Status;
+use hprof_write::DumpError;
 use std::alloc::AllocError;
 
 /// Why a job stopped before its end.
@@ -11,6 +12,8 @@ pub enum Stop {
     Read,
     /// The sink failed.
     Write,
+    /// The shelf failed.
+    Shelf,
     /// Memory was wanting.
     Memory,
     /// The input has more bytes than are allowed.
@@ -28,6 +31,20 @@ impl From<AllocError> for Stop {
     }
 }
 
+impl From<DumpError> for Stop {
+    ghost use Rattle.std.specs.Prelude.{◌≡◌};
+    ghost use Rattle.script_run.specs.Status.{dump_stop};
+
+    ghost from_gives = { λ e s. s ≡ dump_stop e };
+
+    fn from(e: DumpError) -> Stop {
+        match e {
+            DumpError::ShelfFault => Stop::Shelf,
+            DumpError::OutOfMemory => Stop::Memory,
+        }
+    }
+}
+
 impl Stop {
     fn status(self) -> Status
         ensures { result ≡ stop_status self }
@@ -35,6 +52,7 @@ impl Stop {
         match self {
             Stop::Read => Status::ReadFault,
             Stop::Write => Status::WriteFault,
+            Stop::Shelf => Status::ShelfFault,
             Stop::Memory => Status::OutOfMemory,
             Stop::TooLong => Status::TooLong,
         }
