@@ -57,7 +57,7 @@ large-rises large place.Young = omega arith
 large-rises large place.Large = omega arith
 large-rises large place.Promoted = omega arith
 
-count-rises : (large : ℕ) (os : List Object) → large ≤ large_count large os
+pub count-rises : (large : ℕ) (os : List Object) → large ≤ large_count large os
 count-rises large [] = omega arith
 count-rises large (o ∷ os) = let rest = count-rises (large_behind large o.place) os in omega (arith, rest, large-rises large o.place)
 

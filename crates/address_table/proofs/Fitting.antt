@@ -1,11 +1,13 @@
 -- The computed table follows the rules of the heap.
-use Rattle.std.proofs.Common.{◌≡◌, ◌↔◌, ℕ, ◌+◌, ◌-◌, ◌*◌, ◌/◌, ◌%◌, ◌^◌, ◌<◌, ◌≤◌, ◌⊎◌, inl, inr, Bool, true, false, cond, nat_eq, List, [], ◌∷◌, length, slice_index, refl, sym, ap, ◌∙◌, subst, arith}
+use Rattle.std.proofs.Common.{◌≡◌, ◌≢◌, ◌↔◌, ℕ, ◌+◌, ◌-◌, ◌*◌, ◌/◌, ◌%◌, ◌^◌, ◌<◌, ◌≤◌, ◌⊎◌, inl, inr, Bool, true, false, cond, nat_eq, List, [], ◌∷◌, None, Some, length, slice_index, refl, sym, ap, ◌∙◌, subst, arith}
+use Rattle.std.specs.List.{find}
 use Rattle.std.proofs.lemmas.Bool.{eqb-true}
+use Rattle.model_numbers.specs.Numbers.{region_bytes}
 use Rattle.class_layout.specs.ClassList.{Class}
 use Rattle.class_layout.specs.Placing.{IsIn}
 use Rattle.heap_graph.specs.declared.names.Place.{Place}
 use Rattle.heap_graph.specs.declared.names.Place.TheVariants as place
-use Rattle.heap_graph.specs.Graph.{Graph, Object}
+use Rattle.heap_graph.specs.Graph.{Graph, Object, object_at}
 use Rattle.heap_graph.specs.Packing.{used}
 use Rattle.heap_graph.specs.Table.{packing, region_of, Fits, IsPackedAt, IsPlacedAt}
 use Rattle.heap_world.specs.Formed.{IsFormed}
@@ -28,7 +30,7 @@ last-is cs end [] = refl
 last-is cs end (o ∷ os) = ap (λ n. young_end cs n os) (next-is cs end o o.place) ∙ last-is cs (end_behind cs end o o.place) os
 
 -- an address is 0 or an object's
-found : (homes : Homes) (cs : List Class) (end large : ℕ) (os : List Object) (n : ℕ)
+pub found : (homes : Homes) (cs : List Class) (end large : ℕ) (os : List Object) (n : ℕ)
     → (table_from homes cs end large os n ≡ 0) ⊎ ((o : Object) × (IsIn o os × (o.number ≡ n)))
 found homes cs end large [] n = inl refl
 found homes cs end large (x ∷ os) n = by (nat_eq x.number n) refl (found homes cs (end_behind cs end x x.place) (large_behind large x.place) os n)
@@ -39,6 +41,24 @@ found homes cs end large (x ∷ os) n = by (nat_eq x.number n) refl (found homes
     by true e rest = inr (x, (inl refl, eqb-true x.number n e))
     by false e (inl none) = inl none
     by false e (inr (o, h)) = inr (o, (inr h.0, h.1))
+
+-- a number that no object has has the address 0
+no-object : (homes : Homes) (cs : List Class) (end large : ℕ) (os : List Object) (n : ℕ) → find (λ o. nat_eq o.number n) os ≡ None → table_from homes cs end large os n ≡ 0
+no-object homes cs end large [] n none = refl
+no-object homes cs end large (x ∷ os) n none = by (nat_eq x.number n) none (no-object homes cs (end_behind cs end x x.place) (large_behind large x.place) os n)
+  where
+    by : (b : Bool) → cond b (Some x) (find (λ o. nat_eq o.number n) os) ≡ None
+        → (find (λ o. nat_eq o.number n) os ≡ None → table_from homes cs (end_behind cs end x x.place) (large_behind large x.place) os n ≡ 0)
+        → cond b (address_in homes cs end large x x.place) (table_from homes cs (end_behind cs end x x.place) (large_behind large x.place) os n) ≡ 0
+    by true none rest = cc
+    by false none rest = rest none
+
+pub none-at-null : (homes : Homes) (g : Graph) (n : ℕ) → object_at g n ≡ None → table_of homes g n ≡ 0
+none-at-null homes g n none = no-object homes g.classes 0 0 g.objects n none
+
+-- the young objects end within the regions that the process may use
+pub young-fits : (g : Graph) → IsFormed g → last_end g.classes 0 g.objects ≤ region_bytes * g.budget
+young-fits g formed = let within = formed.regions in omega (arith, used-is g, last-is g.classes 0 g.objects, within)
 
 module _ (homes : Homes) (g : Graph) (formed : IsFormed g) (house : HouseAll homes g) where
   cs : List Class
@@ -81,6 +101,17 @@ module _ (homes : Homes) (g : Graph) (formed : IsFormed g) (house : HouseAll hom
       by : (table_of homes g n ≡ 0) ⊎ ((o : Object) × (IsIn o g.objects × (o.number ≡ n))) → table_of homes g n < 2 ^ 32
       by (inl none) = omega (arith, none)
       by (inr (o, h)) = subst (λ (m : ℕ). table_of homes g m < 2 ^ 32) h.1 (in-window o o.place (table_of homes g o.number) (behind o h.0))
+
+  not-null : (o : Object) (at : Place) (address : ℕ) → Behind homes g.classes g.budget (last_end g.classes 0 g.objects) 0 0 0 0 o at address → address ≡ 0 → ⊥
+  not-null o (place.Image spot) address h e = omega (arith, h.0, h.1, e)
+  not-null o (place.Zygote spot) address h e = omega (arith, h.0, h.1, e)
+  not-null o place.Young address (p, h) e = omega (arith, h.3, e)
+  not-null o place.Large address (k, h) e = omega (arith, h.3, e)
+  not-null o place.Promoted address (k, h) e = omega (arith, h.3, e)
+
+  -- no object stands at address 0
+  pub object-not-null : (o : Object) → IsIn o g.objects → table_of homes g o.number ≢ 0
+  object-not-null o h = not-null o o.place (table_of homes g o.number) (behind o h)
 
   in-place : (o : Object) (at : Place) (address : ℕ) → Behind homes g.classes g.budget (last_end g.classes 0 g.objects) 0 0 0 0 o at address → IsPlacedAt at address
   in-place o (place.Image spot) address h = h.0

@@ -1,6 +1,6 @@
-mod Behind
+pub mod Behind
 mod Apart
 mod Packed
-mod Fitting
-mod Homes
-mod Listed
+pub mod Fitting
+pub mod Homes
+pub mod Listed

@@ -80,6 +80,6 @@ pub record HouseAll (homes : Homes) (g : Graph) : Type 0 where
   pub for_young : used g ≤ length homes.regions
   pub for_large : large_count 0 g.objects ≤ length homes.slots
 
--- the first regions of the window in their order, and the slots in theirs
-abbrev pub first_homes : Graph → Homes
-first_homes g = record { regions = count_from 0 g.budget; slots = count_from 0 large_slot_count }
+-- the first regions of the window in their order, so many, and the slots in theirs
+abbrev pub first_homes : ℕ → Homes
+first_homes budget = record { regions = count_from 0 budget; slots = count_from 0 large_slot_count }

@@ -4,4 +4,4 @@
 
 mod laws;
 
-pub use laws::{addresses_are_listed, first_homes_suffice, tables_fit};
+pub use laws::{addresses_are_listed, first_homes_suffice, null_is_no_object, tables_fit};

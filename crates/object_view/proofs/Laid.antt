@@ -178,6 +178,23 @@ bytes-low Short = omega arith
 bytes-low Int = omega arith
 bytes-low Long = omega arith
 
+-- a place behind another has a greater offset
+laid-behind : (high : ℕ) (ps : List FieldAt) (x p : FieldAt) → AreLaid (x.offset + kind_bytes x.kind) high ps → IsIn p ps → x.offset ≡ p.offset → ⊥
+laid-behind high ps x p laid there e =
+    let low = laid-in (x.offset + kind_bytes x.kind) high ps p laid there in
+    omega (arith, bytes-low x.kind, low.0, e)
+
+laid-once : (low high : ℕ) (ps : List FieldAt) (p q : FieldAt) → AreLaid low high ps → IsIn p ps → IsIn q ps → p.offset ≡ q.offset → p ≡ q
+laid-once low high [] p q laid there other e = absurd there
+laid-once low high (x ∷ ps) p q laid (inl f) (inl g) e = sym f ∙ g
+laid-once low high (x ∷ ps) p q laid (inl f) (inr h) e = absurd (laid-behind high ps x q laid.2 h (ap (λ (r : FieldAt). r.offset) f ∙ e))
+laid-once low high (x ∷ ps) p q laid (inr h) (inl g) e = absurd (laid-behind high ps x p laid.2 h (ap (λ (r : FieldAt). r.offset) g ∙ sym e))
+laid-once low high (x ∷ ps) p q laid (inr h) (inr k) e = laid-once (x.offset + kind_bytes x.kind) high ps p q laid.2 h k e
+
+-- places of one offset are one place
+pub one-place : (cs : List Class) (shape : Shape) (p q : FieldAt) → IsIn p (places_of cs shape) → IsIn q (places_of cs shape) → p.offset ≡ q.offset → p ≡ q
+one-place cs shape p q = laid-once (head_end shape) (unrounded cs shape) (places_of cs shape) p q (places-laid cs shape)
+
 -- a field that a name finds is a place
 pub found-in : (ps : List Placed) (name : List ℕ) (at : FieldAt) → option_map (λ p. p.at) (find (λ p. same_name p.name name) ps) ≡ Some at → IsIn at (map (λ p. p.at) ps)
 found-in [] name at e = absurd (none-some at e)

@@ -41,6 +41,11 @@ pub fn places_lie_in_objects()
         → (head_end shape ≤ offset) × (offset % kind_bytes kind ≡ 0) × (offset + kind_bytes kind ≤ size_in cs shape) }
 {}
 
+/// Two places of a shape have two offsets.
+pub fn places_are_apart()
+    ensures { (cs : List Class) (shape : Shape) (p q : FieldAt) → IsIn p (places_of cs shape) → IsIn q (places_of cs shape) → p.offset ≡ q.offset → p ≡ q }
+{}
+
 /// The references of a shape stand by rising offset.
 pub fn references_rise()
     ensures { (cs : List Class) (shape : Shape) (j k : ℕ) (a b : FieldAt) → j < k → reference_place cs shape j ≡ Some a → reference_place cs shape k ≡ Some b → a.offset + 4 ≤ b.offset }

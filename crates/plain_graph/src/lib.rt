@@ -17,4 +17,5 @@ mod values;
 pub use allocation::Allocated;
 pub use graph::Graph;
 pub use object::Object;
+pub use packing::{after, place};
 pub use sizes::{is_large, is_ref, is_too_large, size_in, unrounded};

@@ -74,7 +74,7 @@ impl Graph {
 }
 
 /// Where so many bytes stand behind an end: directly there where they lie in one region, else in the next one.
-pub(crate) fn place(from: u64, size: u64) -> u64
+pub fn place(from: u64, size: u64) -> u64
     requires { from + size < 2 ^ 63 }
     ensures value { result ≡ place from size }
     ensures behind { from ≤ result }
@@ -89,7 +89,7 @@ pub(crate) fn place(from: u64, size: u64) -> u64
 }
 
 /// The end of so many bytes that stand behind an end.
-pub(crate) fn after(from: u64, size: u64) -> u64
+pub fn after(from: u64, size: u64) -> u64
     requires { from + size < 2 ^ 63 }
     ensures value { result ≡ after from size }
     ensures behind { from ≤ result }

@@ -1,0 +1,7 @@
+//! What a dump sees of a plain graph: the graph, and the table of addresses that the first regions and slots give.
+#![tactic(auto)]
+
+mod addresses;
+mod view;
+
+pub use view::View;

@@ -1,0 +1,203 @@
+ghost use Rattle.std.specs.Prelude.{◌≡◌, ◌^◌, ◌<◌, ◌≤◌, ℕ, IfOk, IsTrue, length, map, nat_eq, slice_index};
+ghost use Rattle.std.specs.List.{position};
+ghost use Rattle.address_table.specs.Computed.{first_homes, table_of};
+ghost use Rattle.heap_world.specs.Formed.{IsFormed};
+ghost use Rattle.object_view.specs.Seen.{heap_of, value_in, HasValue};
+ghost use Rattle.object_view.specs.Values.{is_value};
+ghost use Rattle.class_layout.specs.Placing.{IsIn};
+ghost use Rattle.class_layout.specs.declared.kind.FieldAt as fields;
+ghost use Rattle.heap_graph.specs.Graph as graphs;
+ghost use Rattle.plain_view.specs.Viewed.{Viewed};
+
+use crate::addresses::addresses_of;
+use address_table::{addresses_are_listed, first_homes_suffice, tables_fit};
+use class_layout::{Classes, FieldAt, Kind, Name};
+use cow_pages::Addr;
+use heap_graph::{Held, Place, Slot};
+use object_view::{Heap, HeapView, Seen};
+use plain_graph::{Graph, Object};
+use std::alloc::{AllocError, Global};
+use std::marker::Model;
+
+/// What a dump sees of a plain graph. Its objects stand in the first regions of the window and in the first slots.
+#[derive(Drop)]
+pub struct View<'a> {
+    graph: &'a Graph,
+    addresses: Vec<u64>,
+    given: usize,
+}
+
+impl<'a> Model for View<'a> {
+    ghost use Rattle.std.specs.Prelude.{◌≡◌, ◌≤◌, length, map};
+    ghost use Rattle.address_table.specs.Computed.{first_homes, table_of};
+    ghost use Rattle.heap_world.specs.Formed.{IsFormed};
+    ghost use Rattle.plain_view.specs.Viewed.{Viewed};
+
+    ghost Value = { Viewed };
+
+    ghost view = { λ v. record { graph = v.graph.now; given = v.given } };
+
+    ghost invariant = { λ v. IsFormed v.graph.now
+        × (v.addresses.items ≡ map (λ o. table_of (first_homes v.graph.now.budget) v.graph.now o.number) v.graph.now.objects)
+        × (v.given ≤ length v.graph.now.objects) };
+}
+
+/// The heap in which a dump shows an object of the place.
+fn heap_of(place: Place) -> Heap
+    ensures { result ≡ heap_of place }
+{
+    match place {
+        Place::Image(_) => Heap::Image,
+        Place::Zygote(_) | Place::Promoted => Heap::Zygote,
+        Place::Young | Place::Large => Heap::App,
+    }
+}
+
+/// The place of the object of a number among objects.
+fn place_of(objects: &[Object], number: u32) -> Option<usize>
+    ensures { result ≡ position (λ o. nat_eq o.number number) objects.now }
+{
+    objects.iter().position(|o| o.number() == number)
+}
+
+/// The place of an address in a list that has it.
+fn index_of(addresses: &[u64], at: u32) -> usize
+    requires { (k : ℕ) × ((k < length addresses.now) × (slice_index addresses.now k ≡ at)) }
+    ensures { (result < length addresses.now) × (slice_index addresses.now result ≡ at) }
+{
+    for (i, address) in addresses.iter().enumerate() {
+        if *address == u64::from(at) {
+            return i;
+        }
+    }
+    unreachable!()
+}
+
+impl<'a> View<'a> {
+    /// The view of a graph, before its walk.
+    pub fn new(alloc: Global, graph: &'a Graph) -> Result<View<'a>, AllocError>
+        requires formed { IsFormed graph.now }
+        ensures { IfOk result (λ v. v ≡ record { graph = graph.now; given = 0 }) }
+    {
+        addresses_are_listed();
+        first_homes_suffice();
+        let addresses = addresses_of(alloc, graph.classes(), graph.budget(), graph.objects())?;
+        Ok(View {
+            graph,
+            addresses,
+            given: 0,
+        })
+    }
+
+    /// Where the object of a number stands; 0 where no object has it.
+    pub fn address_of(&self, number: u32) -> u32
+        ensures { result ≡ table_of (first_homes self.now.graph.budget) self.now.graph number }
+    {
+        first_homes_suffice();
+        tables_fit();
+        match place_of(self.graph.objects(), number) {
+            Some(i) => self.addresses[i] as u32,
+            None => 0,
+        }
+    }
+
+    /// The object at an address.
+    fn object_at(&self, at: Addr) -> &Object
+        requires { (o : graphs.Object) × (IsIn o self.now.graph.objects × (table_of (first_homes self.now.graph.budget) self.now.graph o.number ≡ at.0)) }
+        ensures { (o : graphs.Object) → IsIn o self.now.graph.objects → table_of (first_homes self.now.graph.budget) self.now.graph o.number ≡ at.0 → result.now ≡ o }
+    {
+        let i = index_of(&self.addresses, at.0);
+        &self.graph.objects()[i]
+    }
+
+    /// What stands at a place of the object at an address, as a number.
+    fn value_of(&self, at: Addr, kind: Kind, offset: u32) -> i64
+        requires { (o : graphs.Object) × (place : fields.FieldAt) × HasValue self.now.graph (table_of (first_homes self.now.graph.budget) self.now.graph) at.0 kind offset o place }
+        ensures value { (o : graphs.Object) (place : fields.FieldAt) → HasValue self.now.graph (table_of (first_homes self.now.graph.budget) self.now.graph) at.0 kind offset o place
+            → result ≡ value_in (table_of (first_homes self.now.graph.budget) self.now.graph) o place }
+        ensures range { IsTrue (is_value kind result) }
+    {
+        let place = FieldAt { kind, offset, weak: false };
+        match self.object_at(at).value_at(&place) {
+            Slot::Number(number) => number,
+            Slot::Null => 0,
+            Slot::Object(number) => i64::from(self.address_of(number)),
+        }
+    }
+}
+
+impl<'a> HeapView for View<'a> {
+    ghost use Rattle.std.specs.Prelude.{◌≡◌, refl};
+    ghost use Rattle.std.proofs.Common.{ap, ◌∙◌};
+    ghost use Rattle.address_table.specs.Computed.{first_homes, table_of};
+
+    ghost graph = { λ v. v.graph };
+
+    ghost table = { λ v. table_of (first_homes v.graph.budget) v.graph };
+
+    ghost given = { λ v. v.given };
+
+    ghost read_count = { λ v. 0 };
+
+    ghost same = { λ a b. b.graph ≡ a.graph };
+
+    fn classes(&self) -> &Classes {
+        first_homes_suffice();
+        tables_fit();
+        self.graph.classes()
+    }
+
+    fn root_count(&self) -> usize {
+        self.graph.roots().len()
+    }
+
+    fn root_name(&self, k: usize) -> Name {
+        self.graph.roots()[k].name
+    }
+
+    fn root_at(&self, k: usize) -> Addr {
+        match self.graph.roots()[k].holds {
+            Held::Null => Addr(0),
+            Held::Object(number) => Addr(self.address_of(number)),
+        }
+    }
+
+    fn holder_at(&self, _class: u32) -> Option<Addr> {
+        None
+    }
+
+    fn object_count(&self) -> usize {
+        self.graph.objects().len()
+    }
+
+    fn rewind(&mut self) {
+        self.given = 0;
+    }
+
+    fn next_object(&mut self) -> Option<Seen> {
+        let o = self.graph.objects().get(self.given)?;
+        self.given += 1;
+        Some(Seen {
+            number: o.number(),
+            at: Addr(self.address_of(o.number())),
+            heap: heap_of(o.place()),
+            shape: o.shape(),
+        })
+    }
+
+    fn value(&mut self, at: Addr, kind: Kind, offset: u32) -> i64 {
+        self.value_of(at, kind, offset)
+    }
+
+    fn reads(&self) -> u64 {
+        0
+    }
+
+    ghost same_self = { λ a. refl };
+
+    ghost same_as_same = { λ a b c h i. i ∙ h };
+
+    ghost same_graph = { λ a b h. h };
+
+    ghost same_table = { λ a b h. ap (λ g. table_of (first_homes g.budget) g) h };
+}
