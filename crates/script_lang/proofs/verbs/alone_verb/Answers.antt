@@ -14,4 +14,4 @@ returns-in-pages-clause-asked c =
     rw e
 
 pub returns-in_default-clause-asked : goal.returns-in_default-clause-asked
-returns-in_default-clause-asked c = none_of_alone c.args.word.now (search rules) (search rules) (search rules) (search rules) (search rules) (search rules)
+returns-in_default-clause-asked c = none_of_alone c.args.word.now (search rules) (search rules) (search rules) (search rules) (search rules) (search rules) (search rules)
