@@ -1,5 +1,5 @@
 -- Where the objects of a list stand: in their windows, each behind those before it.
-use Rattle.std.proofs.Common.{◌≡◌, ℕ, ◌+◌, ◌-◌, ◌*◌, ◌/◌, ◌%◌, ◌^◌, ◌<◌, ◌≤◌, ◌⊎◌, inl, inr, Bool, true, false, cond, nat_eq, List, [], ◌∷◌, length, slice_index, refl, sym, ap, ◌∙◌, subst, arith}
+use Rattle.std.proofs.Common.{◌≡◌, ℕ, ◌+◌, ◌-◌, ◌*◌, ◌/◌, ◌<◌, ◌≤◌, inl, inr, cond, List, [], ◌∷◌, length, slice_index, refl, sym, ap, subst, arith}
 use Rattle.std.proofs.lemmas.Bool.{eq-eqb, ne_eqb}
 use Rattle.class_layout.specs.ClassList.{Class}
 use Rattle.class_layout.specs.Placing.{IsIn}
@@ -11,7 +11,7 @@ use Rattle.heap_graph.specs.Packing as packing
 use Rattle.heap_graph.proofs.Sizes.{after-above, size-least}
 use Rattle.heap_graph.proofs.Totals.{total}
 use Rattle.heap_world.specs.Formed.{AreRising, FillImage, FillZygote, IsBehindImage, IsBehindZygote, zygote_next}
-use Rattle.heap_world.proofs.Placed.{top-max, young_end, zygote_top}
+use Rattle.heap_world.proofs.Placed.{top-max, zygote_top}
 use Rattle.address_table.specs.Computed.{address_in, end_behind, large_behind, large_count, packed_at, slot_at, table_from, AreNumbers, Homes}
 
 -- numbers of a list that rises

@@ -1,5 +1,5 @@
 -- The computed table follows the rules of the heap.
-use Rattle.std.proofs.Common.{◌≡◌, ◌≢◌, ◌↔◌, ℕ, ◌+◌, ◌-◌, ◌*◌, ◌/◌, ◌%◌, ◌^◌, ◌<◌, ◌≤◌, ◌⊎◌, inl, inr, Bool, true, false, cond, nat_eq, List, [], ◌∷◌, None, Some, length, slice_index, refl, sym, ap, ◌∙◌, subst, arith}
+use Rattle.std.proofs.Common.{◌≡◌, ◌≢◌, ◌↔◌, ℕ, ◌+◌, ◌*◌, ◌/◌, ◌^◌, ◌<◌, ◌≤◌, ◌⊎◌, inl, inr, Bool, true, false, cond, nat_eq, List, [], ◌∷◌, None, Some, length, slice_index, refl, sym, ap, ◌∙◌, subst, arith}
 use Rattle.std.specs.List.{find}
 use Rattle.std.proofs.lemmas.Bool.{eqb-true}
 use Rattle.model_numbers.specs.Numbers.{region_bytes}
@@ -8,11 +8,10 @@ use Rattle.class_layout.specs.Placing.{IsIn}
 use Rattle.heap_graph.specs.declared.names.Place.{Place}
 use Rattle.heap_graph.specs.declared.names.Place.TheVariants as place
 use Rattle.heap_graph.specs.Graph.{Graph, Object, object_at}
-use Rattle.heap_graph.specs.Packing.{used}
 use Rattle.heap_graph.specs.Table.{packing, region_of, Fits, IsPackedAt, IsPlacedAt}
 use Rattle.heap_world.specs.Formed.{IsFormed}
 use Rattle.heap_world.proofs.Placed.{placed_of, used-is, young_end, young_next}
-use Rattle.address_table.specs.Computed.{address_in, end_behind, large_behind, packed_at, table_from, table_of, AreNumbers, Homes, HouseAll}
+use Rattle.address_table.specs.Computed.{address_in, end_behind, large_behind, packed_at, table_from, table_of, Homes, HouseAll}
 use Rattle.address_table.proofs.Behind.{all-behind, last_end, region-below, Behind, Rest}
 use Rattle.address_table.proofs.Apart.{all-apart}
 use Rattle.address_table.proofs.Packed.{all-packed, IsPacked}

@@ -1,11 +1,11 @@
 -- The first regions and slots suffice.
-use Rattle.std.proofs.Common.{◌≡◌, ℕ, zero, suc, ◌+◌, ◌*◌, ◌-◌, ◌/◌, ◌<◌, ◌≤◌, List, [], ◌∷◌, length, slice_index, refl, sym, ◌∙◌, arith}
+use Rattle.std.proofs.Common.{◌≡◌, ℕ, zero, suc, ◌+◌, ◌*◌, ◌/◌, ◌<◌, ◌≤◌, List, [], ◌∷◌, slice_index, arith}
 use Rattle.model_numbers.specs.Numbers.{large_base, large_slot_bytes, large_slot_count, region_base, region_bytes}
 use Rattle.class_layout.specs.ClassList.{Class}
 use Rattle.heap_graph.specs.declared.names.Place.{Place}
 use Rattle.heap_graph.specs.declared.names.Place.TheVariants as place
 use Rattle.heap_graph.specs.Graph.{Graph, Object}
-use Rattle.heap_graph.specs.Packing.{cost, used}
+use Rattle.heap_graph.specs.Packing.{cost}
 use Rattle.heap_graph.specs.Sizes.{unrounded}
 use Rattle.heap_graph.proofs.Sizes.{unrounded-least}
 use Rattle.heap_graph.proofs.Totals.{total}

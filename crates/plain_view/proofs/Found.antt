@@ -1,14 +1,19 @@
--- The object of a number, found by its place in the list.
+-- The object of a number and the object at an address, found by their places in the list.
 use Rattle.std.proofs.Common.{◌≡◌, true≢false, ℕ, zero, suc, ◌+◌, ◌<◌, ◌≤◌, ◌⊎◌, inl, inr, Bool, true, false, not, cond, nat_eq, nat_lt, List, [], ◌∷◌, Option, None, Some, length, get_or, map, slice_index, refl, sym, ap, subst, ◌∙◌, arith}
-use Rattle.std.specs.List.{position, position_or_len}
+use Rattle.std.specs.List.{find, position, position_or_len}
+use Rattle.std.specs.Option.{option_map}
 use Rattle.std.proofs.lemmas.Bool.{eqb-true, eq-eqb, ltb-true, ltb-false}
-use Rattle.class_layout.specs.Placing.{IsIn}
 use Rattle.std.proofs.lemmas.List.{get_or_default, length-map}
-use Rattle.heap_graph.specs.Graph.{Graph, Object}
+use Rattle.std.proofs.lemmas.Option.{same_Some, none-some}
+use Rattle.class_layout.specs.Placing.{IsIn}
+use Rattle.cow_pages.specs.declared.address.Addr.{Addr}
+use Rattle.heap_graph.specs.Graph.{Graph, Object, object_at}
 use Rattle.heap_graph.specs.Table.{Fits}
 use Rattle.heap_world.specs.Formed.{IsFormed}
-use Rattle.address_table.specs.Computed.{first_homes, table_of}
-use Rattle.address_table.proofs.Fitting.{found}
+use Rattle.address_table.specs.Computed.{first_homes}
+use Rattle.address_table.proofs.Fitting.{none-at-null}
+use Rattle.plain_view.specs.Viewed.{address_at, at_address, first_table}
+use Rattle.plain_view.proofs.Shown.{first-fits}
 
 module _ (f : ℕ → ℕ) (n : ℕ) where
   -- what stands in a list of addresses at that place
@@ -63,10 +68,88 @@ address-read f n os items i r is e read =
     let less : i < length (map (λ o. f o.number) os) = simp length-map at.0 in
     read ∙ ap (λ xs. get_or xs i r) is ∙ get_or_default (map (λ o. f o.number) os) i r 0 less ∙ at.1
 
--- a number that no object has has the address 0
-pub no-address : (g : Graph) (n : ℕ) → position (λ o. nat_eq o.number n) g.objects ≡ None → 0 ≡ table_of (first_homes g.budget) g n
-no-address g n none = by (found (first_homes g.budget) g.classes 0 0 g.objects n)
+-- what is found has the number
+found-object : (os : List Object) (n : ℕ) (o : Object) → find (λ x. nat_eq x.number n) os ≡ Some o → IsIn o os × (o.number ≡ n)
+found-object [] n o e = absurd (none-some o e)
+found-object (x ∷ os) n o e = by (nat_eq x.number n) refl e (found-object os n o)
   where
-    by : (table_of (first_homes g.budget) g n ≡ 0) ⊎ ((o : Object) × (IsIn o g.objects × (o.number ≡ n))) → 0 ≡ table_of (first_homes g.budget) g n
-    by (inl nothing) = sym nothing
-    by (inr (o, h)) = absurd (no-place (λ m. m) n g.objects none o h.0 h.1)
+    by : (b : Bool) → nat_eq x.number n ≡ b → cond b (Some x) (find (λ y. nat_eq y.number n) os) ≡ Some o
+        → (find (λ y. nat_eq y.number n) os ≡ Some o → IsIn o os × (o.number ≡ n)) → IsIn o (x ∷ os) × (o.number ≡ n)
+    by true is e rest = let same = same_Some x o e in (inl same, subst (λ (y : Object). y.number ≡ n) same (eqb-true x.number n is))
+    by false is e rest = let found = rest e in (inr found.0, found.1)
+
+-- where none is found, no object of the list has the number
+none-there : (os : List Object) (n i : ℕ) → find (λ x. nat_eq x.number n) os ≡ None → i < length os → slice_index (map (λ o. o.number) os) i ≡ n → ⊥
+none-there [] n i none less e = omega (arith, less)
+none-there (x ∷ os) n i none less e = by (nat_eq x.number n) refl i none less e (none-there os n)
+  where
+    by : (b : Bool) → nat_eq x.number n ≡ b → (i : ℕ) → cond b (Some x) (find (λ y. nat_eq y.number n) os) ≡ None → i < length (x ∷ os)
+        → slice_index (x.number ∷ map (λ o. o.number) os) i ≡ n
+        → ((j : ℕ) → find (λ y. nat_eq y.number n) os ≡ None → j < length os → slice_index (map (λ o. o.number) os) j ≡ n → ⊥) → ⊥
+    by true is i none less e rest = cc
+    by false is zero none less e rest = true≢false (sym (eq-eqb x.number n e) ∙ is)
+    by false is (suc i) none less e rest = rest i none (omega (arith, less)) e
+
+-- an object that has a place has an address
+pub found-address : (g : Graph) (n i at : ℕ) → position (λ o. nat_eq o.number n) g.objects ≡ Some i → at ≡ first_table g n → Some (at_address at) ≡ address_at g n
+found-address g n i at e is = by (object_at g n) refl
+  where
+    by : (found : Option Object) → object_at g n ≡ found → Some (at_address at) ≡ option_map (λ (o : Object). at_address (first_table g o.number)) found
+    by None none = let there = some-place (λ m. m) n g.objects i e in absurd (none-there g.objects n i none there.0 there.1)
+    by (Some o) found = ap (λ a. Some (at_address a)) (is ∙ ap (first_table g) (sym (found-object g.objects n o found).1))
+
+-- and one that has none has none
+pub no-address : (g : Graph) (n : ℕ) → position (λ o. nat_eq o.number n) g.objects ≡ None → None ≡ address_at g n
+no-address g n e = by (object_at g n) refl
+  where
+    by : (found : Option Object) → object_at g n ≡ found → None ≡ option_map (λ (o : Object). at_address (first_table g o.number)) found
+    by None none = refl
+    by (Some o) found = let there = found-object g.objects n o found in absurd (no-place (λ m. m) n g.objects e o there.0 there.1)
+
+-- the address of an object is that of the table
+pub some-stands : (g : Graph) (n : ℕ) (at : Addr) → Some at ≡ address_at g n → at.0 ≡ first_table g n
+some-stands g n at = by (object_at g n) refl
+  where
+    by : (found : Option Object) → object_at g n ≡ found → Some at ≡ option_map (λ (o : Object). at_address (first_table g o.number)) found → at.0 ≡ first_table g n
+    by None none e = absurd (none-some at (sym e))
+    by (Some o) found e = ap (λ (a : Addr). a.0) (same_Some at (at_address (first_table g o.number)) e) ∙ ap (first_table g) (found-object g.objects n o found).1
+
+-- without one the table has 0
+pub none-stands : (g : Graph) (n : ℕ) → None ≡ address_at g n → 0 ≡ first_table g n
+none-stands g n = by (object_at g n) refl
+  where
+    by : (found : Option Object) → object_at g n ≡ found → None ≡ option_map (λ (o : Object). at_address (first_table g o.number)) found → 0 ≡ first_table g n
+    by None none e = sym (none-at-null (first_homes g.budget) g n none)
+    by (Some o) found e = absurd (none-some (at_address (first_table g o.number)) e)
+
+module _ (f : Object → ℕ) where
+  -- an object of the list has its address at some place
+  pub some-index : (os : List Object) (o : Object) → IsIn o os → (k : ℕ) × ((k < length (map f os)) × (slice_index (map f os) k ≡ f o))
+  some-index [] o none = absurd none
+  some-index (x ∷ os) o (inl e) = (0, (omega arith, ap f e))
+  some-index (x ∷ os) o (inr h) =
+      let rest : (k : ℕ) × ((k < length (map f os)) × (slice_index (map f os) k ≡ f o)) = some-index os o h in
+      let less = rest.1.0 in
+      (suc rest.0, (omega (arith, less), rest.1.1))
+
+  -- what stands at a place of the list has the address of that place
+  pub at-index : (os : List Object) (i : ℕ) (r : Object) → i < length os → r ≡ get_or os i r → IsIn r os × (slice_index (map f os) i ≡ f r)
+  at-index [] i r less e = absurd (omega (arith, less))
+  at-index (x ∷ os) zero r less e = (inl (sym e), ap f (sym e))
+  at-index (x ∷ os) (suc i) r less e = let rest = at-index os i r (omega (arith, less)) e in (inr rest.0, rest.1)
+
+-- the object at an address is the one at the address's place
+pub object-there : (g : Graph) (formed : IsFormed g) (items : List ℕ) (i at : ℕ) (r o : Object) → items ≡ map (λ o. first_table g o.number) g.objects → i < length g.objects
+    → slice_index items i ≡ at → r ≡ get_or g.objects i r → IsIn o g.objects → first_table g o.number ≡ at → r ≡ o
+object-there g formed items i at r o is less e r-is o-in o-at =
+    let f : Object → ℕ = λ o. first_table g o.number in
+    let there = at-index f g.objects i r less r-is in
+    let fit : Fits (first_table g) g = first-fits g formed in
+    fit.apart r o there.0 o-in (sym there.1 ∙ ap (λ xs. slice_index xs i) (sym is) ∙ e ∙ sym o-at)
+
+-- the address of an object is one of the list
+pub index-there : (g : Graph) (items xs : List ℕ) (at : ℕ) (o : Object) → items ≡ map (λ o. first_table g o.number) g.objects → xs ≡ items → IsIn o g.objects
+    → first_table g o.number ≡ at → (k : ℕ) × ((k < length xs) × (slice_index xs k ≡ at))
+index-there g items xs at o is same there o-at =
+    let found = some-index (λ o. first_table g o.number) g.objects o there in
+    subst (λ (ys : List ℕ). (k : ℕ) × ((k < length ys) × (slice_index ys k ≡ at))) (sym (same ∙ is)) (found.0, (found.1.0, found.1.1 ∙ o-at))

@@ -2,6 +2,7 @@
 #![tactic(auto)]
 
 mod addresses;
+mod examples;
 mod view;
 
 pub use view::View;

@@ -1,19 +1,16 @@
-ghost use Rattle.std.specs.Prelude.{◌≡◌, ◌^◌, ◌<◌, ◌≤◌, ℕ, IfOk, IsTrue, length, map, nat_eq, slice_index};
+ghost use Rattle.std.specs.Prelude.{◌≡◌, ◌<◌, ℕ, IfOk, IsTrue, length, nat_eq, slice_index};
 ghost use Rattle.std.specs.List.{position};
-ghost use Rattle.address_table.specs.Computed.{first_homes, table_of};
 ghost use Rattle.heap_world.specs.Formed.{IsFormed};
-ghost use Rattle.object_view.specs.Seen.{heap_of, value_in, HasValue};
+ghost use Rattle.object_view.specs.Seen.{heap_of, seen_value, value_in, HasValue};
 ghost use Rattle.object_view.specs.Values.{is_value};
-ghost use Rattle.class_layout.specs.Placing.{IsIn};
 ghost use Rattle.class_layout.specs.declared.kind.FieldAt as fields;
 ghost use Rattle.heap_graph.specs.Graph as graphs;
-ghost use Rattle.plain_view.specs.Viewed.{Viewed};
+ghost use Rattle.plain_view.specs.Viewed.{address_at, first_table};
 
 use crate::addresses::addresses_of;
-use address_table::{addresses_are_listed, first_homes_suffice, tables_fit};
 use class_layout::{Classes, FieldAt, Kind, Name};
 use cow_pages::Addr;
-use heap_graph::{Held, Place, Slot};
+use heap_graph::{Content, Held, Place};
 use object_view::{Heap, HeapView, Seen};
 use plain_graph::{Graph, Object};
 use std::alloc::{AllocError, Global};
@@ -29,16 +26,15 @@ pub struct View<'a> {
 
 impl<'a> Model for View<'a> {
     ghost use Rattle.std.specs.Prelude.{◌≡◌, ◌≤◌, length, map};
-    ghost use Rattle.address_table.specs.Computed.{first_homes, table_of};
     ghost use Rattle.heap_world.specs.Formed.{IsFormed};
-    ghost use Rattle.plain_view.specs.Viewed.{Viewed};
+    ghost use Rattle.plain_view.specs.Viewed.{first_table, Viewed};
 
     ghost Value = { Viewed };
 
     ghost view = { λ v. record { graph = v.graph.now; given = v.given } };
 
     ghost invariant = { λ v. IsFormed v.graph.now
-        × (v.addresses.items ≡ map (λ o. table_of (first_homes v.graph.now.budget) v.graph.now o.number) v.graph.now.objects)
+        × (v.addresses.items ≡ map (λ o. first_table v.graph.now o.number) v.graph.now.objects)
         × (v.given ≤ length v.graph.now.objects) };
 }
 
@@ -79,8 +75,6 @@ impl<'a> View<'a> {
         requires formed { IsFormed graph.now }
         ensures { IfOk result (λ v. v ≡ record { graph = graph.now; given = 0 }) }
     {
-        addresses_are_listed();
-        first_homes_suffice();
         let addresses = addresses_of(alloc, graph.classes(), graph.budget(), graph.objects())?;
         Ok(View {
             graph,
@@ -89,51 +83,60 @@ impl<'a> View<'a> {
         })
     }
 
-    /// Where the object of a number stands; 0 where no object has it.
-    pub fn address_of(&self, number: u32) -> u32
-        ensures { result ≡ table_of (first_homes self.now.graph.budget) self.now.graph number }
+    /// Where the object of a number stands, or `None` where no object has the number.
+    pub fn address_of(&self, number: u32) -> Option<Addr>
+        ensures { result ≡ address_at self.now.graph number }
     {
-        first_homes_suffice();
-        tables_fit();
-        match place_of(self.graph.objects(), number) {
-            Some(i) => self.addresses[i] as u32,
-            None => 0,
+        let i = place_of(self.graph.objects(), number)?;
+        Some(Addr(self.addresses[i] as u32))
+    }
+
+    /// Where the object of a number stands, or at null where no object has the number.
+    fn stands_at(&self, number: u32) -> Addr
+        ensures { result.0 ≡ first_table self.now.graph number }
+    {
+        match self.address_of(number) {
+            Some(at) => at,
+            None => Addr(0),
         }
     }
 
-    /// The object at an address.
-    fn object_at(&self, at: Addr) -> &Object
-        requires { (o : graphs.Object) × (IsIn o self.now.graph.objects × (table_of (first_homes self.now.graph.budget) self.now.graph o.number ≡ at.0)) }
-        ensures { (o : graphs.Object) → IsIn o self.now.graph.objects → table_of (first_homes self.now.graph.budget) self.now.graph o.number ≡ at.0 → result.now ≡ o }
+    /// What a slot holds as a number: a reference is an address, and null is 0.
+    fn seen_value(&self, content: Content) -> i64
+        ensures { result ≡ seen_value (first_table self.now.graph) content }
     {
-        let i = index_of(&self.addresses, at.0);
-        &self.graph.objects()[i]
+        match content {
+            Content::Number(number) => number,
+            Content::Null => 0,
+            Content::Object(number) => i64::from(self.stands_at(number).0),
+        }
     }
 
     /// What stands at a place of the object at an address, as a number.
     fn value_of(&self, at: Addr, kind: Kind, offset: u32) -> i64
-        requires { (o : graphs.Object) × (place : fields.FieldAt) × HasValue self.now.graph (table_of (first_homes self.now.graph.budget) self.now.graph) at.0 kind offset o place }
-        ensures value { (o : graphs.Object) (place : fields.FieldAt) → HasValue self.now.graph (table_of (first_homes self.now.graph.budget) self.now.graph) at.0 kind offset o place
-            → result ≡ value_in (table_of (first_homes self.now.graph.budget) self.now.graph) o place }
+        requires { (o : graphs.Object) × (place : fields.FieldAt) × HasValue self.now.graph (first_table self.now.graph) at.0 kind offset o place }
+        ensures value { (o : graphs.Object) (place : fields.FieldAt) → HasValue self.now.graph (first_table self.now.graph) at.0 kind offset o place
+            → result ≡ value_in (first_table self.now.graph) o place }
         ensures range { IsTrue (is_value kind result) }
     {
-        let place = FieldAt { kind, offset, weak: false };
-        match self.object_at(at).value_at(&place) {
-            Slot::Number(number) => number,
-            Slot::Null => 0,
-            Slot::Object(number) => i64::from(self.address_of(number)),
-        }
+        let i = index_of(&self.addresses, at.0);
+        let place = FieldAt {
+            kind,
+            offset,
+            weak: false,
+        };
+        self.seen_value(self.graph.objects()[i].value_at(&place))
     }
 }
 
 impl<'a> HeapView for View<'a> {
     ghost use Rattle.std.specs.Prelude.{◌≡◌, refl};
     ghost use Rattle.std.proofs.Common.{ap, ◌∙◌};
-    ghost use Rattle.address_table.specs.Computed.{first_homes, table_of};
+    ghost use Rattle.plain_view.specs.Viewed.{first_table};
 
     ghost graph = { λ v. v.graph };
 
-    ghost table = { λ v. table_of (first_homes v.graph.budget) v.graph };
+    ghost table = { λ v. first_table v.graph };
 
     ghost given = { λ v. v.given };
 
@@ -142,8 +145,6 @@ impl<'a> HeapView for View<'a> {
     ghost same = { λ a b. b.graph ≡ a.graph };
 
     fn classes(&self) -> &Classes {
-        first_homes_suffice();
-        tables_fit();
         self.graph.classes()
     }
 
@@ -158,7 +159,7 @@ impl<'a> HeapView for View<'a> {
     fn root_at(&self, k: usize) -> Addr {
         match self.graph.roots()[k].holds {
             Held::Null => Addr(0),
-            Held::Object(number) => Addr(self.address_of(number)),
+            Held::Object(number) => self.stands_at(number),
         }
     }
 
@@ -179,7 +180,7 @@ impl<'a> HeapView for View<'a> {
         self.given += 1;
         Some(Seen {
             number: o.number(),
-            at: Addr(self.address_of(o.number())),
+            at: self.stands_at(o.number()),
             heap: heap_of(o.place()),
             shape: o.shape(),
         })
@@ -199,5 +200,5 @@ impl<'a> HeapView for View<'a> {
 
     ghost same_graph = { λ a b h. h };
 
-    ghost same_table = { λ a b h. ap (λ g. table_of (first_homes g.budget) g) h };
+    ghost same_table = { λ a b h. ap first_table h };
 }

@@ -1,4 +1,4 @@
-use Rattle.std.proofs.Common.{◌≡◌, ℕ, ◌+◌, ◌*◌, ◌^◌, ◌<◌, ◌≤◌, List, [], ◌∷◌, ◌++◌, ap, sym, subst, ◌∙◌, append_assoc, arith}
+use Rattle.std.proofs.Common.{◌≡◌, ℕ, ◌*◌, ◌^◌, ◌<◌, ◌≤◌, List, [], ◌∷◌, ◌++◌, ap, sym, subst, ◌∙◌, append_assoc, arith}
 use Rattle.class_layout.specs.ClassList.{Class}
 use Rattle.heap_graph.specs.Graph.{Object}
 use Rattle.heap_world.specs.Formed.{AreObjects}
@@ -68,8 +68,8 @@ loop-o-preserved c =
     let e = c.end_behind-end.ensures in
     let l = c.large_behind-large.ensures in
     let at = c.address_in.ensures c.args.budget
-        (let young = behind.young in let rises = last-rises cs c.end_behind-end.result c.in-Some.more.now in omega (arith, young, rises, e))
-        (let large = behind.large_few in let rises = count-rises c.large_behind-large.result c.in-Some.more.now in omega (arith, large, rises, l)) in
+    (let young = behind.young in let rises = last-rises cs c.end_behind-end.result c.in-Some.more.now in omega (arith, young, rises, e))
+    (let large = behind.large_few in let rises = count-rises c.large_behind-large.result c.in-Some.more.now in omega (arith, large, rises, l)) in
     record {
       so_far = next-so-far (first_homes c.args.budget) cs c.loop-o.end c.loop-o.large c.in-Some.o.now c.in-Some.more.now c.loop-o.rest.now c.loop-o.addresses.items c.push.new.self.items
           (addresses_from (first_homes c.args.budget) cs 0 0 c.args.objects.now) c.address_in.result c.end_behind-end.result c.large_behind-large.result is at e l c.in_ok-push.ensures.items inv.so_far;
