@@ -17,11 +17,11 @@ use Rattle.script_lang.specs.Feeding.{kept_line}
 use Rattle.script_make.specs.Lines.{made_line, next_state}
 use Rattle.script_make.specs.Script.{made_lines, soak_lines, state_after}
 use Rattle.script_make.specs.declared.state.MakeState.{MakeState}
-use Rattle.script_run.specs.declared.status.Status.TheVariants.{WriteFault}
+use Rattle.job_status.specs.declared.status.Status.TheVariants.{WriteFault}
 use Rattle.artheap_top.specs.declared.summary.Summary.{Summary}
 use Rattle.artheap_top.specs.declared.tally.Tally.{Tally}
 use Rattle.script_run.specs.Outside.{Output}
-use Rattle.script_run.specs.Status.{refused_status}
+use Rattle.job_status.specs.Status.{refused_status}
 use Rattle.script_report.specs.Report.{answers_of, has_refusal, step_line, with_answer, world_of}
 use Rattle.artheap_top.specs.Soaking.{EndedSoak, HasSoaked, counted, no_lines, one_more_if}
 use Rattle.artheap_top.specs.Summary.{collection_count, refusal_count, summary, summary_of, summary_text, tells_collection}

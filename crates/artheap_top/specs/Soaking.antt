@@ -7,8 +7,8 @@ use Rattle.heap_world.specs.World.{World}
 use Rattle.plain_machine.specs.Worlds.{StandsFor}
 use Rattle.script_make.specs.Script.{soak_lines}
 use Rattle.script_report.specs.Report.{answers_of, has_refusal, world_of}
-use Rattle.script_run.specs.declared.status.Status.{Status}
-use Rattle.script_run.specs.declared.status.Status.TheVariants as status
+use Rattle.job_status.specs.declared.status.Status.{Status}
+use Rattle.job_status.specs.declared.status.Status.TheVariants as status
 use Rattle.script_run.specs.Outside.{Output}
 use Rattle.artheap_top.specs.declared.tally.Tally.{Tally}
 use Rattle.artheap_top.specs.Summary.{collection_count, refusal_count, summary, tells_collection}

@@ -8,6 +8,7 @@ mod tally;
 mod top;
 mod words;
 
+pub use job_status::Status;
 pub use script_report::{commands_are_answered, scripts_are_isolated};
-pub use script_run::{Machine, Status};
+pub use script_run::Machine;
 pub use top::artheap;

@@ -6,16 +6,17 @@ ghost use Rattle.script_make.specs.Boot.{boot_lines};
 ghost use Rattle.script_make.specs.Script.{first_state, made_lines, soak_lines};
 ghost use Rattle.model_numbers.specs.Numbers.{line_limit, most_regions};
 ghost use Rattle.script_run.specs.Outside.{output_of};
-ghost use Rattle.script_run.specs.Status.{job_status};
+ghost use Rattle.job_status.specs.Status.{job_status};
 ghost use Rattle.artheap_top.specs.Soaking.{EndedSoak, HasSoaked, IsWithinLines};
 
 use crate::Machine;
 use crate::summary::Summary;
 use crate::tally::Tally;
 use ah_outside::{Failed, Sink};
+use job_status::Stop;
 use script_lang::Fed;
 use script_make::{MakeState, boot_line, line_of};
-use script_run::{Stop, step_line};
+use script_run::step_line;
 use std::alloc::{AllocError, Global};
 
 /// Runs the line behind those that were counted, and counts it.

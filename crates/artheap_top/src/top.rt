@@ -2,7 +2,8 @@ ghost use Rattle.std.specs.Prelude.{◌≡◌, ◌≢◌, ◌↔◌, ◌≤◌, 
 ghost use Rattle.ah_outside.specs.Outside.{FaultRose};
 ghost use Rattle.heap_world.specs.World.{empty_world};
 ghost use Rattle.plain_machine.specs.Worlds.{StandsFor};
-ghost use Rattle.script_run.specs.Ends.{EndedRun, EndsWell, HasFewLeft};
+ghost use Rattle.job_status.specs.Inputs.{HasFewLeft};
+ghost use Rattle.script_run.specs.Ends.{EndedRun, EndsWell};
 ghost use Rattle.script_run.specs.Outside.{outside_of, output_of};
 ghost use Rattle.artheap_top.specs.Soaking.{EndedSoak};
 ghost use Rattle.artheap_top.specs.Words.{job_of};
@@ -11,7 +12,8 @@ use crate::soak::soak;
 use crate::words::{Job, job_of};
 use crate::{Machine, Status};
 use ah_outside::{Shelf, Sink, Source};
-use script_run::{job_status, run_script};
+use job_status::job_status;
+use script_run::run_script;
 use std::alloc::Global;
 
 /// Does the job that the words name. The words are those after the program's name.

@@ -1,4 +1,4 @@
-//! Tests of `hprof_read`: the front of a dump at each length, bytes that are no dump, a dump's records, and listings.
+//! Tests of `hprof_read` and `hprof_list`: the front of a dump at each length, bytes that are no dump, a dump's records, and listings.
 #![tactic(auto)]
 
 #[cfg(test)]

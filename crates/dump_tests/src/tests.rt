@@ -1,6 +1,7 @@
 use crate::bytes::{BUILT_IN, EACH, EACH_LISTING, SMALL, SMALL_LISTING};
 use ah_outside::{MemorySink, Sink};
-use hprof_read::{Dump, ReadError, read_dump, write_listing};
+use hprof_list::write_listing;
+use hprof_read::{Dump, ReadError, read_dump};
 use hprof_records::{SubRecord, TopRecord};
 use std::alloc::AllocError;
 use std::test::Fail;

@@ -8,4 +8,3 @@ pub mod Header
 pub mod Unique
 pub mod Bodies
 pub mod LawLemmas
-pub mod Putting

@@ -4,14 +4,14 @@ use Rattle.ah_outside.specs.Outside.{Gained, Shelved}
 use Rattle.plain_machine.specs.Worlds.{StandsFor}
 use Rattle.script_report.specs.Report.{answers_of, dumps_of, has_refusal, line_dumps, line_report, report_of, step_line, world_of}
 use Rattle.script_report.proofs.Reports.{dumps-more, next_answers, refusal-more, report-more, world-more}
-use Rattle.script_run.specs.declared.stop.Stop.{Stop}
-use Rattle.script_run.specs.declared.stop.Stop.TheVariants.{Read, Write, Shelf, Memory, TooLong}
+use Rattle.job_status.specs.declared.stop.Stop.{Stop}
+use Rattle.job_status.specs.declared.stop.Stop.TheVariants.{Read, Write, Shelf, Memory, TooLong}
 use Rattle.script_run.specs.Dumps.{HasShelved}
 use Rattle.script_run.specs.Ends.{ShelvedBehind}
 use Rattle.script_run.specs.Outside.{Output, Setting}
 use Rattle.script_run.specs.Progress.{HasRunLines, PutInPart, PutNothing, RanLine, ShelvedInPart, StoppedBehind, StoppedLine}
 use Rattle.script_run.proofs.Dumps.{shelved-more}
-use Rattle.script_run.proofs.Outside.{FaultRose-earlier, Gained-more}
+use Rattle.job_status.proofs.Outside.{FaultRose-earlier, Gained-more}
 
 -- a line behind others, and what is outside before the others, before it, and after it
 module _ (s : Setting) (before : List (List ℕ)) (line : List ℕ) (n : ℕ) (refused : Bool) (old mid new : Output)

@@ -7,7 +7,7 @@ use Rattle.script_lang.specs.Feeding.{Feed, first_part, has_line_feed, kept_line
 use Rattle.script_lang.specs.Parts.{is_byte, parts}
 use Rattle.script_lang.proofs.FeedingLemmas.{OnePart-first_part, parts-ended, take-taken}
 use Rattle.script_lang.proofs.PartsLemmas.{lines-ended, parts-append, whole_lines-last}
-use Rattle.script_run.specs.declared.stop.Stop.{Stop}
+use Rattle.job_status.specs.declared.stop.Stop.{Stop}
 use Rattle.script_run.specs.Outside.{Output, Setting}
 use Rattle.script_run.specs.Progress.{HasRun, HasRunLines, StoppedBehind, StoppedIn}
 

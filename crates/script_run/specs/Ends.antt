@@ -1,5 +1,5 @@
 -- How a run of a script may end, and what it leaves: each ending relates what was outside before the run to what is there after it.
-use Rattle.std.specs.Prelude.{◌≡◌, ◌≢◌, ◌⊎◌, ℕ, ◌+◌, ◌<◌, ◌≤◌, Bool, true, false, List, [], ◌∷◌, ◌++◌, Option, IfSome, IsSomeAnd, length, map, take}
+use Rattle.std.specs.Prelude.{◌≡◌, ◌≢◌, ◌⊎◌, ℕ, ◌+◌, ◌<◌, ◌≤◌, Bool, true, false, List, [], ◌∷◌, ◌++◌, Option, length, map, take}
 use Rattle.ah_outside.specs.Outside.{FaultRose, Gave, Gained}
 use Rattle.model_numbers.specs.Numbers.{input_limit, piece_bytes}
 use Rattle.heap_world.specs.Isolation.{NoNameTaken}
@@ -7,18 +7,11 @@ use Rattle.plain_machine.specs.Worlds.{StandsFor}
 use Rattle.script_lang.specs.Parts.{lines, whole_lines}
 use Rattle.script_report.specs.Own.{AreAloneIn, told_by_script}
 use Rattle.script_report.specs.Report.{answers, answers_of, last_world, has_refusal, line_report, report_of, world_of}
-use Rattle.script_run.specs.declared.status.Status.{Status}
-use Rattle.script_run.specs.declared.status.Status.TheVariants as status
+use Rattle.job_status.specs.Inputs.{NothingLeft}
+use Rattle.job_status.specs.declared.status.Status.{Status}
+use Rattle.job_status.specs.declared.status.Status.TheVariants as status
 use Rattle.script_run.specs.Dumps.{HasShelved, HasShelvedBut, StoppedShelving}
 use Rattle.script_run.specs.Outside.{Outside, Output, Setting}
-
--- the source tells what it has left, and that is no longer than an input may be
-abbrev pub HasFewLeft : Option (List ℕ) → Type 0
-HasFewLeft left = IsSomeAnd left (λ text. length text ≤ input_limit)
-
--- nothing is left, where the source tells it
-abbrev pub NothingLeft : Option (List ℕ) → Type 0
-NothingLeft left = IfSome left (λ rest. rest ≡ [])
 
 -- the answers of a job that was neither refused for its words nor stopped by a fault or by its input's length
 abbrev pub EndsWell : Status → Type 0

@@ -2,4 +2,3 @@ pub mod Dumps
 pub mod Ends
 pub mod Outside
 pub mod Progress
-pub mod Status

@@ -7,11 +7,18 @@ use Rattle.script_lang.specs.Feeding.{Feed, kept_line}
 use Rattle.script_lang.specs.Parts.{is_byte, lines, parts, whole_lines}
 use Rattle.script_report.specs.Report.{LineDone, answers_of, has_refusal, report_of, with_answer}
 use Rattle.script_run.specs.declared.input.Progress.{Progress}
-use Rattle.script_run.specs.declared.stop.Stop.{Stop}
-use Rattle.script_run.specs.declared.stop.Stop.TheVariants.{Read, Write, Shelf, Memory, TooLong}
+use Rattle.hprof_write.specs.declared.error.DumpError.{DumpError}
+use Rattle.hprof_write.specs.declared.error.DumpError.TheVariants.{ShelfFault, OutOfMemory}
+use Rattle.job_status.specs.declared.stop.Stop.{Stop}
+use Rattle.job_status.specs.declared.stop.Stop.TheVariants.{Read, Write, Shelf, Memory, TooLong}
 use Rattle.script_run.specs.Dumps.{HasShelved, StoppedShelving}
 use Rattle.script_run.specs.Ends.{FailedShelf, PutBehind, RanLines, ShelvedBehind}
 use Rattle.script_run.specs.Outside.{Outside, Output, Setting}
+
+-- why a run stops whose dump wasn't written whole
+abbrev pub dump_stop : DumpError → Stop
+dump_stop ShelfFault = Shelf
+dump_stop OutOfMemory = Memory
 
 -- the report's text for what the line of a number does
 abbrev pub report_at : ℕ → LineDone → List ℕ

@@ -1,14 +1,15 @@
 //! The input: it is taken piece by piece, up to its end or its limit.
 ghost use Rattle.std.specs.Prelude.{◌≡◌, ◌<◌, ◌≤◌, ℕ, false, true, length, MatchResult, IfOk, OnOk};
 ghost use Rattle.model_numbers.specs.Numbers.{input_limit, piece_bytes};
-ghost use Rattle.script_run.specs.Ends.{EndedRun, NothingLeft};
+ghost use Rattle.job_status.specs.Inputs.{NothingLeft};
+ghost use Rattle.script_run.specs.Ends.{EndedRun};
 ghost use Rattle.script_run.specs.Outside.{Outside, Setting, outside_of, output_of};
 ghost use Rattle.script_run.specs.Progress.{HasTaken, IsGoing};
-ghost use Rattle.script_run.specs.Status.{stop_status};
+ghost use Rattle.job_status.specs.Status.{stop_status};
 
 use crate::Machine;
 use crate::piece::run_piece;
-use crate::stop::Stop;
+use job_status::Stop;
 use ah_outside::{Shelf, Sink, Source};
 use model_numbers::PIECE_BYTES;
 use script_lang::LineFeed;

@@ -7,12 +7,8 @@ mod input;
 mod line;
 mod piece;
 mod script;
-mod status;
-mod stop;
 
 pub use dumped::Dumped;
 pub use line::{Answered, step_line};
 pub use plain_machine::Machine;
 pub use script::run_script;
-pub use status::Status;
-pub use stop::{Stop, job_status};

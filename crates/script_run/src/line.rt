@@ -11,11 +11,11 @@ ghost use Rattle.script_report.specs.Dumps.{Dumping};
 ghost use Rattle.script_report.specs.Report.{has_refusal, report_of, step_line, with_answer};
 ghost use Rattle.script_run.specs.Dumps.{HasShelved, IsAsked, StoppedShelving};
 ghost use Rattle.script_run.specs.Outside.{Output, Setting, output_of};
-ghost use Rattle.script_run.specs.Progress.{HasRunLines, RanLine, StoppedBehind, StoppedLine};
+ghost use Rattle.script_run.specs.Progress.{dump_stop, HasRunLines, RanLine, StoppedBehind, StoppedLine};
 
 use crate::Machine;
 use crate::dumped::{Dumped, add_entries, dumped_by};
-use crate::stop::Stop;
+use job_status::Stop;
 use ah_outside::{Failed, Shelf, Sink, put_all};
 use hprof_write::DumpError;
 use model_numbers::LINE_LIMIT;
@@ -97,6 +97,16 @@ fn put_reply<W: Sink>(sink: &mut W, number: u64, reply: &Reply) -> Result<(), Fa
     put_all(sink, &buf[..end])
 }
 
+/// Why a run stops whose dump wasn't written whole.
+fn dump_stop(e: DumpError) -> Stop
+    ensures { result ≡ dump_stop e }
+{
+    match e {
+        DumpError::ShelfFault => Stop::Shelf,
+        DumpError::OutOfMemory => Stop::Memory,
+    }
+}
+
 /// Adds the entries of the dump that a line asked for, if it asked for one.
 fn add_asked<F: Shelf>(
     alloc: Global,
@@ -157,8 +167,10 @@ fn answer_line<W: Sink, F: Shelf>(
     ensures shelf_never_falls { F.fault_count shelf.old ≤ F.fault_count shelf.new }
 {
     let answered = step_line(alloc, machine, fed)?;
-    add_asked(alloc, machine, &answered.dumped, time, shelf)?;
-    put_answer(sink, number_of(fed), &answered.reply)
+    match add_asked(alloc, machine, &answered.dumped, time, shelf) {
+        Ok(()) => put_answer(sink, number_of(fed), &answered.reply),
+        Err(e) => Err(dump_stop(e)),
+    }
 }
 
 /// Runs the line that a feed has whole, writes its dump and puts its reply, begins the next, and tells whether the reply

@@ -5,7 +5,7 @@ ghost use Rattle.script_run.specs.Progress.{HasRun, StoppedIn};
 
 use crate::Machine;
 use crate::line::run_line;
-use crate::stop::Stop;
+use job_status::Stop;
 use ah_outside::{Shelf, Sink};
 use script_lang::LineFeed;
 use std::alloc::Global;

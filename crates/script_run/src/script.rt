@@ -7,12 +7,12 @@ ghost use Rattle.script_lang.specs.Parts.{lines};
 ghost use Rattle.script_run.specs.Ends.{EndedRun};
 ghost use Rattle.script_run.specs.Outside.{Output, Setting, outside_of, output_of};
 ghost use Rattle.script_run.specs.Progress.{HasRun, HasRunLines, IsGoing, StoppedLast};
-ghost use Rattle.script_run.specs.Status.{job_status};
+ghost use Rattle.job_status.specs.Status.{job_status};
 
 use crate::Machine;
 use crate::input::{Progress, run_input};
 use crate::line::run_line;
-use crate::stop::Stop;
+use job_status::Stop;
 use ah_outside::{Shelf, Sink, Source};
 use model_numbers::INPUT_LIMIT;
 use script_lang::LineFeed;

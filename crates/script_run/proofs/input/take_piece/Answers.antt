@@ -4,7 +4,9 @@ use Rattle.std.proofs.lemmas.Result.{err_from_is_err_and}
 use Rattle.model_numbers.specs.Numbers.{piece_bytes}
 use Rattle.script_run.specs.Outside.{Outside, outside_of, output_of}
 use Rattle.script_run.specs.Progress.{HasRun}
-use Rattle.script_run.proofs.Inputs.{not_more, nothing_given, takes_too_many, turn_goes_on, turn_reads_no_more, turn_stops}
+use Rattle.job_status.proofs.Inputs.{nothing_given}
+use Rattle.job_status.proofs.Inputs.{nothing_given}
+use Rattle.script_run.proofs.Inputs.{not_more, takes_too_many, turn_goes_on, turn_reads_no_more, turn_stops}
 use Rattle.script_run.proofs.input.take_piece.Goals as goal
 
 pub returns-in_default-clause-done : goal.returns-in_default-clause-done

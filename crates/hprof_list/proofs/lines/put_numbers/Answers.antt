@@ -1,0 +1,5 @@
+use Rattle.hprof_list.proofs.Putting.{said}
+use Rattle.hprof_list.proofs.lines.put_numbers.Goals as goal
+
+pub returns : goal.returns
+returns g c = said _ _ _ _ _ _ _ c.put_value_line.ensures (simp (c.as_bytes.ensures.value, c.format.ensures.text, c.as_bytes-2.ensures.value, c.format-2.ensures.text, c.as_bytes-3.ensures.value, c.format-3.ensures.text, c.as_slice.ensures, c.id_of-id.ensures))

@@ -1,0 +1,10 @@
+//! The listing of a dump, line by line.
+#![tactic(auto)]
+
+mod counts;
+mod examples;
+mod lines;
+mod put;
+
+pub use lines::write_listing;
+pub use put::put_pieces;

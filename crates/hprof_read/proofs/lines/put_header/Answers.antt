@@ -1,5 +1,0 @@
-use Rattle.hprof_read.proofs.Putting.{said}
-use Rattle.hprof_read.proofs.lines.put_header.Goals as goal
-
-pub returns : goal.returns
-returns g c = said _ _ _ _ _ _ _ c.put_pieces.ensures (simp (c.as_bytes.ensures.value, c.format.ensures.text))

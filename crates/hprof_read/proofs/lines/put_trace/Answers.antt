@@ -1,5 +1,0 @@
-use Rattle.hprof_read.proofs.Putting.{said}
-use Rattle.hprof_read.proofs.lines.put_trace.Goals as goal
-
-pub returns : goal.returns
-returns g c = said _ _ _ _ _ _ _ c.put_ids_line.ensures (simp (c.as_bytes.ensures.value, c.format.ensures.text, c.as_bytes-2.ensures.value, c.format-2.ensures.text, c.as_bytes-3.ensures.value, c.format-3.ensures.text, c.as_slice.ensures, c.as_slice-2.ensures))

@@ -1,0 +1,18 @@
+use Rattle.std.proofs.Common.{List, ℕ, sym, subst}
+use Rattle.read_job.specs.Ends.{TookAll, streams_of}
+use Rattle.read_job.proofs.Endings.{reading_ends}
+use Rattle.read_job.proofs.reading.take_and_tell.Goals as goal
+
+pub returns-clause-ended : goal.returns-clause-ended
+returns-clause-ended g c =
+    let left = g.S.Source.left in
+    let reads = g.S.Source.fault_count in
+    let told = g.W.Sink.gained in
+    let puts = g.W.Sink.fault_count in
+    let sink = c.args.sink.now in
+    let from = c.args.source.now in
+    let to = c.take_input.new.source in
+    reading_ends c.deref.result.now (left from) (reads from) (told sink) (puts sink) (left to) (reads to) (told c.tell.new.sink) (puts c.tell.new.sink)
+    (subst (λ (text : List ℕ). TookAll text (streams_of (left from) (reads from) (told sink) (puts sink)) (streams_of (left to) (reads to) (told sink) (puts sink)))
+    (sym c.deref.ensures.value) (c.in_ok-text.ensures.done (told sink) (puts sink)))
+    c.tell.result c.tell.ensures.told

@@ -1,0 +1,45 @@
+-- What is put of a text, and the status of a reading.
+use Rattle.std.specs.Prelude.{◌≡◌, ◌≢◌, ◌⊎◌, ℕ, Bool, true, false, List, Option, Result, Ok, Err}
+use Rattle.ah_outside.specs.Outside.{FaultRose, Gained, GainedPrefix}
+use Rattle.hprof_read.specs.declared.read_error.ReadError.{ReadError}
+use Rattle.hprof_read.specs.declared.read_error.ReadError.TheVariants.{OutOfMemory}
+use Rattle.job_status.specs.declared.status.Status.{Status}
+use Rattle.job_status.specs.declared.status.Status.TheVariants as status
+use Rattle.job_status.specs.declared.stop.Stop.{Stop}
+use Rattle.job_status.specs.declared.stop.Stop.TheVariants.{Read, Write, Memory, TooLong}
+use Rattle.job_status.specs.Status.{stop_status}
+use Rattle.read_job.specs.Ends.{IsListing, TellsFault, fault_line}
+
+-- what is put of a text, by whether it is a dump
+abbrev pub IsAnswer : Bool → List ℕ → List ℕ → Type 0
+IsAnswer true text put = IsListing text put
+IsAnswer false text put = TellsFault text put
+
+-- the answer to a text was put
+abbrev pub Told : Bool → List ℕ → Option (List ℕ) → Option (List ℕ) → Type 0
+Told is_dump text held held' = (put : List ℕ) × (IsAnswer is_dump text put × Gained held put held')
+
+-- why the answer to a text wasn't put whole
+abbrev pub StoppedTelling : Stop → List ℕ → Option (List ℕ) → ℕ → Option (List ℕ) → ℕ → Type 0
+StoppedTelling Read text held writes held' writes' = ⊥
+StoppedTelling Write text held writes held' writes' =
+    (put : List ℕ) × ((IsListing text put ⊎ TellsFault text put) × GainedPrefix held put held' × FaultRose writes writes')
+StoppedTelling Memory text held writes held' writes' = held' ≡ held
+StoppedTelling TooLong text held writes held' writes' = ⊥
+
+-- why the line of a fault wasn't put whole
+abbrev pub StoppedFault : Stop → ReadError → Option (List ℕ) → ℕ → Option (List ℕ) → ℕ → Type 0
+StoppedFault Read e held writes held' writes' = ⊥
+StoppedFault Write e held writes held' writes' = (e ≢ OutOfMemory) × GainedPrefix held (fault_line e) held' × FaultRose writes writes'
+StoppedFault Memory e held writes held' writes' = held' ≡ held
+StoppedFault TooLong e held writes held' writes' = ⊥
+
+-- the status of a reading that ended, by whether the text is a dump
+abbrev pub told_status : Bool → Status
+told_status true = status.Ok
+told_status false = status.NotDump
+
+-- the status of a reading
+abbrev pub read_status : Result Bool Stop → Status
+read_status (Ok is_dump) = told_status is_dump
+read_status (Err stop) = stop_status stop

@@ -1,0 +1,82 @@
+//! What is put of a text: its listing where it is a dump, and else the line that tells its first fault.
+ghost use Rattle.std.specs.Prelude.{◌≡◌, ◌≢◌, ◌≤◌, MatchResult};
+ghost use Rattle.ah_outside.specs.Outside.{Gained};
+ghost use Rattle.hprof_list.specs.Putting.{Puts};
+ghost use Rattle.read_job.specs.Ends.{fault_line, fault_number, numbered_line};
+ghost use Rattle.read_job.specs.Telling.{StoppedFault, StoppedTelling, Told};
+
+use ah_outside::{Failed, Sink};
+use hprof_list::{put_pieces, write_listing};
+use hprof_read::{ReadError, read_dump};
+use itoa::Buffer;
+use job_status::Stop;
+use std::alloc::Global;
+
+/// Puts the line that tells a fault by its number and its offset.
+fn put_numbered<W: Sink>(sink: &mut W, number: u8, offset: u64) -> Result<(), Failed>
+    ensures { Puts W.gained W.fault_count sink.old (numbered_line number offset) sink.new result }
+{
+    let mut number_text = Buffer::new();
+    let mut offset_text = Buffer::new();
+    put_pieces(
+        sink,
+        &[
+            b"not a dump: H",
+            number_text.format(number).as_bytes(),
+            b" at ",
+            offset_text.format(offset).as_bytes(),
+            b"\n",
+        ],
+    )
+}
+
+/// The number of a fault and its offset. Want of memory is no fault.
+fn fault_number(error: ReadError) -> Option<(u8, u64)>
+    ensures { result ≡ fault_number error }
+{
+    match error {
+        ReadError::Magic { offset } => Some((1, offset)),
+        ReadError::IdSize { offset } => Some((2, offset)),
+        ReadError::CutShort { offset } => Some((3, offset)),
+        ReadError::UnknownTag { offset } => Some((4, offset)),
+        ReadError::PastEnd { offset } => Some((5, offset)),
+        ReadError::BadType { offset } => Some((6, offset)),
+        ReadError::OutOfMemory => None,
+    }
+}
+
+/// Puts the line that tells a fault.
+fn put_fault<W: Sink>(sink: &mut W, error: ReadError) -> Result<(), Stop>
+    ensures told { MatchResult result
+        (λ _. (error ≢ ReadError.OutOfMemory) × Gained (W.gained sink.old) (fault_line error) (W.gained sink.new))
+        (λ stop. StoppedFault stop error (W.gained sink.old) (W.fault_count sink.old) (W.gained sink.new) (W.fault_count sink.new)) }
+    ensures never_falls { W.fault_count sink.old ≤ W.fault_count sink.new }
+{
+    let Some((number, offset)) = fault_number(error) else {
+        return Err(Stop::Memory);
+    };
+    match put_numbered(sink, number, offset) {
+        Ok(()) => Ok(()),
+        Err(Failed) => Err(Stop::Write),
+    }
+}
+
+/// Puts the listing of a text that is a dump, or the line that tells the first fault of another. Tells whether the text
+/// is a dump.
+pub(crate) fn tell<W: Sink>(alloc: Global, text: &[u8], sink: &mut W) -> Result<bool, Stop>
+    ensures told { MatchResult result
+        (λ is_dump. Told is_dump text.now (W.gained sink.old) (W.gained sink.new))
+        (λ stop. StoppedTelling stop text.now (W.gained sink.old) (W.fault_count sink.old) (W.gained sink.new) (W.fault_count sink.new)) }
+    ensures never_falls { W.fault_count sink.old ≤ W.fault_count sink.new }
+{
+    match read_dump(alloc, text) {
+        Ok(dump) => match write_listing(&dump, sink) {
+            Ok(()) => Ok(true),
+            Err(Failed) => Err(Stop::Write),
+        },
+        Err(error) => {
+            put_fault(sink, error)?;
+            Ok(false)
+        }
+    }
+}
