@@ -1,5 +1,5 @@
 -- A live process that a name finds is found among the live ones.
-use Rattle.std.proofs.Common.{◌≡◌, ℕ, Bool, true, false, cond, not, List, [], ◌∷◌, Option, Some, sym, ap, ◌∙◌}
+use Rattle.std.proofs.Common.{◌≡◌, ℕ, Bool, true, false, cond, not, List, [], ◌∷◌, Option, Some, refl, ap, ◌∙◌}
 use Rattle.std.proofs.lemmas.Bool.{both_ways}
 use Rattle.class_layout.specs.Names.{same_name}
 use Rattle.heap_world.specs.World.{Process, live, process_named}
@@ -12,7 +12,7 @@ live-named (p ∷ ps) name q h lives = by (same_name p.name name) p.part.exited 
         → (process_named ps name ≡ Some q → process_named (live ps) name ≡ Some q) → process_named (cond (not x) (p ∷ live ps) (live ps)) name ≡ Some q
     by true true e out found rest =
         let same : p ≡ q = cc (found) in
-        absurd (both_ways p.part.exited out (ap (λ r. r.part.exited) same ∙ lives))
+        absurd (both_ways p.part.exited (ap (λ r. r.part.exited) same ∙ lives) out)
     by true false e out found rest = ap (λ b. cond b (Some p) (process_named (live ps) name)) e ∙ found
     by false true e out found rest = rest found
     by false false e out found rest = ap (λ b. cond b (Some p) (process_named (live ps) name)) e ∙ rest found

@@ -10,6 +10,7 @@ use Rattle.heap_world.specs.declared.command.Verb.TheVariants as verb
 use Rattle.heap_world.specs.Acts.{dump_counted, dump_if, dump_to}
 use Rattle.heap_world.specs.World.{Process, World, process_after, process_named, put_process, step, step_found, step_live, stepped}
 use Rattle.heap_world.proofs.Processes.{named-put, named_name}
+use Rattle.plain_machine.specs.Counts.{graph_in_any}
 use Rattle.script_report.specs.Dumps.{Dumping, dumping_asked, dumping_of, dumping_stepped}
 use Rattle.script_report.proofs.Dumps.{live-named}
 use Rattle.script_run.specs.Dumps.{AreBegun, AreDumped, HasEntry, HasEntryPart, HasShelved, HasShelvedPart, IsAsked, IsBegun, dump_entries, dump_entry, dumped_by, map_entry}
@@ -94,7 +95,7 @@ module _ (w : World) (n : ℕ) (name : List ℕ) where
           let g = dump_counted q.part.graph in
           let new : Process = process_after n (dump_to q.part g) q in
           let is : process_named (put_process w new).processes name ≡ Some new = named-put w.processes name q new e (named_name w.processes name q e) in
-          (new, live-named (put_process w new).processes name new is d, ap (dumping_of name g.dumps) is)
+          (g, ap graph_in_any (live-named (put_process w new).processes name new is d), ap (dumping_of name g.dumps) is)
 
       lives : (x : Bool) → q.part.exited ≡ x → let s = step_live x w n q verb.Dump in IsAsked (dumped_by name verb.Dump s.reply) (dumping_asked s.world name verb.Dump s.reply) s.world
       lives true d = refl

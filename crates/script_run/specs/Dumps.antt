@@ -2,12 +2,14 @@
 use Rattle.std.specs.Prelude.{◌≡◌, ◌⊎◌, ℕ, true, false, List, [], ◌∷◌, ◌++◌, Option, None, Some, codes, decimal, take}
 use Rattle.std.specs.Option.{option_map}
 use Rattle.ah_outside.specs.Outside.{Entry, Shelved}
+use Rattle.heap_graph.specs.Graph.{Graph}
 use Rattle.heap_graph.specs.Table.{Fits}
 use Rattle.heap_world.specs.declared.command.Verb.{Verb}
 use Rattle.heap_world.specs.declared.command.Verb.TheVariants as verb
 use Rattle.heap_world.specs.declared.reply.Reply.{Reply}
 use Rattle.heap_world.specs.declared.reply.Reply.TheVariants as reply
-use Rattle.heap_world.specs.World.{Process, World, live, process_named}
+use Rattle.heap_world.specs.World.{World}
+use Rattle.plain_machine.specs.Counts.{graph_of}
 use Rattle.hprof_records.specs.Records.{dump_bytes}
 use Rattle.hprof_write.specs.TableText.{table_text}
 use Rattle.hprof_write.specs.Written.{written}
@@ -83,8 +85,7 @@ dumped_by name v r = None
 abbrev pub IsAsked : Option Dumped → List Dumping → World → Type 0
 IsAsked None ds w = ds ≡ []
 IsAsked (Some x) ds w =
-    (q : Process) × (process_named (live w.processes) x.process ≡ Some q)
-    × (ds ≡ record { process = x.process; count = x.count; graph = q.part.graph } ∷ [])
+    (g : Graph) × (graph_of w x.process ≡ Some g) × (ds ≡ record { process = x.process; count = x.count; graph = g } ∷ [])
 
 -- a closed entry was added behind the others, and none is unfinished
 pub record HasEntry (e : Entry) (old new : Shelved) : Type 0 where

@@ -1,11 +1,12 @@
 //! What is to be dumped, and its two entries on the shelf.
 ghost use Rattle.std.specs.Prelude.{◌≡◌, ◌∷◌, ◌≤◌, ℕ, List, [], Some, false, true, codes, IfOk, MatchResult, OnOk};
 ghost use Rattle.ah_outside.specs.Outside.{FaultRose};
+ghost use Rattle.heap_graph.specs.Graph.{Graph};
 ghost use Rattle.heap_graph.specs.Table.{Fits};
-ghost use Rattle.heap_world.specs.World.{World, live, process_named};
-ghost use Rattle.heap_world.specs.World as worlds;
+ghost use Rattle.heap_world.specs.World.{World};
 ghost use Rattle.hprof_write.specs.Outcomes.{IfShelfFault};
-ghost use Rattle.plain_machine.specs.Addresses.{addresses};
+ghost use Rattle.plain_dumps.specs.Addresses.{addresses};
+ghost use Rattle.plain_machine.specs.Counts.{graph_of};
 ghost use Rattle.plain_machine.specs.Worlds.{StandsFor};
 ghost use Rattle.script_report.specs.Dumps.{Dumping};
 ghost use Rattle.script_run.specs.Dumps.{HasEntry, HasEntryPart, HasShelved, HasShelvedPart, dump_entry, dumped_by, entry_name, map_entry};
@@ -15,6 +16,7 @@ use ah_outside::Shelf;
 use class_layout::Name;
 use hprof_write::DumpError;
 use itoa::Buffer;
+use plain_dumps::{write_dump, write_map};
 use script_lang::{Command, Reply, Verb};
 use std::alloc::{AllocError, Global};
 
@@ -61,12 +63,12 @@ fn add_dump<F: Shelf>(
     shelf: &mut F,
 ) -> Result<(), DumpError>
     requires finished { (F.shelved shelf.old).unfinished ≡ false }
-    ensures done { (w : World) (q : worlds.Process) → StandsFor machine.old w → process_named (live w.processes) dumped.now.process ≡ Some q →
-        let d : Dumping = record { process = dumped.now.process; count = dumped.now.count; graph = q.part.graph } in
+    ensures done { (w : World) (g : Graph) → StandsFor machine.old w → graph_of w dumped.now.process ≡ Some g →
+        let d : Dumping = record { process = dumped.now.process; count = dumped.now.count; graph = g } in
         let whole = dump_entry time d (addresses machine.old dumped.now.process) in
         MatchResult result (λ _. HasEntry whole (F.shelved shelf.old) (F.shelved shelf.new)) (λ _. HasEntryPart whole (F.shelved shelf.old) (F.shelved shelf.new)) }
-    ensures fits { (w : World) (q : worlds.Process) → StandsFor machine.old w → process_named (live w.processes) dumped.now.process ≡ Some q →
-        Fits (addresses machine.old dumped.now.process) q.part.graph }
+    ensures fits { (w : World) (g : Graph) → StandsFor machine.old w → graph_of w dumped.now.process ≡ Some g →
+        Fits (addresses machine.old dumped.now.process) g }
     ensures finished { OnOk result ((F.shelved shelf.new).unfinished ≡ false) }
     ensures stands { (w : World) → StandsFor machine.old w → StandsFor machine.new w }
     ensures addresses { addresses machine.new dumped.now.process ≡ addresses machine.old dumped.now.process }
@@ -75,7 +77,7 @@ fn add_dump<F: Shelf>(
 {
     let name = entry_name(alloc, dumped, b"hprof")?;
     shelf.begin(&name)?;
-    machine.write_dump(&dumped.process, time, shelf)?;
+    write_dump(alloc, machine, &dumped.process, time, shelf)?;
     shelf.finish()?;
     Ok(())
 }
@@ -88,8 +90,8 @@ fn add_map<F: Shelf>(
     shelf: &mut F,
 ) -> Result<(), DumpError>
     requires finished { (F.shelved shelf.old).unfinished ≡ false }
-    ensures done { (w : World) (q : worlds.Process) → StandsFor machine.old w → process_named (live w.processes) dumped.now.process ≡ Some q →
-        let d : Dumping = record { process = dumped.now.process; count = dumped.now.count; graph = q.part.graph } in
+    ensures done { (w : World) (g : Graph) → StandsFor machine.old w → graph_of w dumped.now.process ≡ Some g →
+        let d : Dumping = record { process = dumped.now.process; count = dumped.now.count; graph = g } in
         let whole = map_entry d (addresses machine.old dumped.now.process) in
         MatchResult result (λ _. HasEntry whole (F.shelved shelf.old) (F.shelved shelf.new)) (λ _. HasEntryPart whole (F.shelved shelf.old) (F.shelved shelf.new)) }
     ensures finished { OnOk result ((F.shelved shelf.new).unfinished ≡ false) }
@@ -99,7 +101,7 @@ fn add_map<F: Shelf>(
 {
     let name = entry_name(alloc, dumped, b"map")?;
     shelf.begin(&name)?;
-    machine.write_map(&dumped.process, shelf)?;
+    write_map(alloc, machine, &dumped.process, shelf)?;
     shelf.finish()?;
     Ok(())
 }
@@ -114,8 +116,8 @@ pub(crate) fn add_entries<F: Shelf>(
     shelf: &mut F,
 ) -> Result<(), DumpError>
     requires finished { (F.shelved shelf.old).unfinished ≡ false }
-    ensures done { (w : World) (q : worlds.Process) → StandsFor machine.old w → process_named (live w.processes) dumped.now.process ≡ Some q →
-        let d : Dumping = record { process = dumped.now.process; count = dumped.now.count; graph = q.part.graph } in
+    ensures done { (w : World) (g : Graph) → StandsFor machine.old w → graph_of w dumped.now.process ≡ Some g →
+        let d : Dumping = record { process = dumped.now.process; count = dumped.now.count; graph = g } in
         MatchResult result (λ _. HasShelved time (d ∷ []) (F.shelved shelf.old) (F.shelved shelf.new)) (λ _. HasShelvedPart time d (F.shelved shelf.old) (F.shelved shelf.new)) }
     ensures finished { OnOk result ((F.shelved shelf.new).unfinished ≡ false) }
     ensures stands { (w : World) → StandsFor machine.old w → StandsFor machine.new w }
