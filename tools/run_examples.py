@@ -1,5 +1,5 @@
 #!/usr/bin/env python3
-"""Runs every example of docs/script.md and of examples/, and compares report and exit status with what stands there.
+"""Runs every example of docs/script.md, docs/dumps.md and examples/, and compares report and exit status with what stands there.
 
 usage: tools/run_examples.py [--fast] [PROGRAM]
 
@@ -9,6 +9,7 @@ PROGRAM is crates/artheap_cli/out/artheap_cli if not given: ./build makes it. --
 In docs/script.md an example is a block `script`, `pattern` or `bytes`, with its options behind that word, and the next
 block `report`, where `..` in front stands for lines that aren't shown. Between them the page tells the status. In a
 pattern `{0..9}` makes a line for each number, and `{x*100}` is 100 times x. In bytes each line ends as it says.
+In docs/dumps.md a block `dump` stands for a script: in each line pairs of digits of base 16, and words behind them.
 In examples/ the first line of a script names its words where it wants an option.
 """
 
@@ -37,6 +38,8 @@ def script_of(kind, lines):
     if kind == "bytes":
         signs = {r"\n": "\n", r"\r": "\r", r"\t": "\t"}
         return re.sub(r"\\[nrt]", lambda it: signs[it[0]], "".join(lines)).encode()
+    if kind == "dump":
+        return bytes.fromhex(" ".join(re.match(r"(\s*[0-9a-f]{2}(?!\S))*", line)[0] for line in lines))
     if kind == "pattern":
         lines = [made for line in lines for made in expanded(line)]
     return "".join(f"{line}\n" for line in lines).encode()
@@ -45,13 +48,14 @@ def script_of(kind, lines):
 def examples_of_page(file):
     with open(f"{TOP}/{file}", encoding="utf-8") as page:
         text = page.read()
-    block = re.compile(r"^```(script|pattern|bytes|report)( [^\n]*)?\n(.*?)^```$", re.M | re.S)
+    block = re.compile(r"^```(script|pattern|bytes|dump|report)( [^\n]*)?\n(.*?)^```$", re.M | re.S)
     given = None
     for found in block.finditer(text):
         kind, options, lines = found[1], (found[2] or "").split(), found[3].splitlines()
         if kind != "report":
             place = f"{file}:{text.count(chr(10), 0, found.start()) + 1}"
-            given = Example(place, ["run", *options], script_of(kind, lines), None, None)
+            words = ["read"] if kind == "dump" else ["run", *options]
+            given = Example(place, words, script_of(kind, lines), None, None)
             end = found.end()
         elif given:
             told = re.search(r"status (\d)", text[end : found.start()])
@@ -98,7 +102,7 @@ def main():
     if not os.access(program, os.X_OK):
         sys.exit(f"{program} isn't there: ./build makes the program")
     ran = differ = left_out = 0
-    for example in [*examples_of_page("docs/script.md"), *examples_of_folder("examples")]:
+    for example in [*examples_of_page("docs/script.md"), *examples_of_page("docs/dumps.md"), *examples_of_folder("examples")]:
         if "--fast" in sys.argv and example.script.count(b"\n") > 10000:
             left_out += 1
             continue

@@ -1,4 +1,5 @@
-//! `artheap`: runs a script over a modelled heap of the Android Runtime, from standard input to standard output.
+//! `artheap`: runs a script over a modelled heap of the Android Runtime, or lists a dump, from standard input to
+//! standard output.
 #![tactic(auto)]
 
 use ah_outside::{BufferedSink, FlushingSource, FolderShelf, SharedWriter};
@@ -13,7 +14,7 @@ const BUFFER_BYTES: usize = 65_536;
 fn message(status: Status) -> Option<&'static str> {
     match status {
         Status::Ok | Status::Refused | Status::NotDump => None,
-        Status::Usage => Some("usage: artheap run [--regions N] | soak START COUNT [--regions N]"),
+        Status::Usage => Some("usage: artheap run [--regions N] | read | soak START COUNT [--regions N]"),
         Status::ReadFault => Some("artheap: read fault"),
         Status::WriteFault => Some("artheap: write fault"),
         Status::OutOfMemory => Some("artheap: out of memory"),

@@ -37,12 +37,21 @@ abbrev pub run_of : Option ℕ → Option Job
 run_of None = None
 run_of (Some regions) = Some (job.Run regions)
 
--- the job that the words ask for: `run [--regions N]` or `soak START COUNT [--regions N]`
+-- a reading, where no word follows
+abbrev pub read_of : List (List ℕ) → Option Job
+read_of [] = Some job.Read
+read_of (word ∷ words) = None
+
+-- the job that the words ask for: `run [--regions N]`, `read` or `soak START COUNT [--regions N]`
 abbrev pub job_of : List (List ℕ) → Option Job
 job_of [] = None
-job_of (word ∷ words) = if same_name word (codes "run") then run_of (option_regions words) else if same_name word (codes "soak") then soak_job words else None
+job_of (word ∷ words) =
+    if same_name word (codes "run") then run_of (option_regions words)
+    else if same_name word (codes "read") then read_of words
+    else if same_name word (codes "soak") then soak_job words else None
 
 -- the numbers of a job are within their bounds
 abbrev pub IsPossible : Job → Type 0
 IsPossible (job.Run regions) = (1 ≤ regions) × (regions ≤ most_regions)
+IsPossible job.Read = Unit {0}
 IsPossible (job.Soak start count regions) = (start ≤ 2147483647) × (count ≤ 1000000) × (1 ≤ regions) × (regions ≤ most_regions)

@@ -3,6 +3,7 @@ ghost use Rattle.ah_outside.specs.Outside.{FaultRose};
 ghost use Rattle.heap_world.specs.World.{empty_world};
 ghost use Rattle.plain_machine.specs.Worlds.{StandsFor};
 ghost use Rattle.job_status.specs.Inputs.{HasFewLeft};
+ghost use Rattle.read_job.specs.Ends.{EndedRead, EndsTold, streams_of};
 ghost use Rattle.script_run.specs.Ends.{EndedRun, EndsWell};
 ghost use Rattle.script_run.specs.Outside.{outside_of, output_of};
 ghost use Rattle.artheap_top.specs.Soaking.{EndedSoak};
@@ -13,19 +14,21 @@ use crate::words::{Job, job_of};
 use crate::{Machine, Status};
 use ah_outside::{Shelf, Sink, Source};
 use job_status::job_status;
+use read_job::list_input;
 use script_run::run_script;
 use std::alloc::Global;
 
 /// Does the job that the words name. The words are those after the program's name.
 ///
 /// `run [--regions N]` runs a script of at most 268,435,456 bytes from the source, at most 4,096 bytes at a time. Each
-/// line is run as soon as its line feed was taken, or the input ended behind it, and its reply is put to the sink as one piece before the next line is
-/// run and before more bytes are taken. `soak START COUNT [--regions N]` runs the script that a generator makes of two
-/// numbers, START up to 2,147,483,647 and COUNT up to 1,000,000, and puts a summary. N is the budget of each process in
-/// regions, 1 to 512, and 64 if it isn't given.
+/// line is run as soon as its line feed was taken, or the input ended behind it, and its reply is put to the sink as one
+/// piece before the next line is run and before more bytes are taken. `read` takes a dump of at most as many bytes, and
+/// then puts its listing, or the line that tells its first fault. `soak START COUNT [--regions N]` runs the script that
+/// a generator makes of two numbers, START up to 2,147,483,647 and COUNT up to 1,000,000, and puts a summary. N is the
+/// budget of each process in regions, 1 to 512, and 64 if it isn't given.
 ///
 /// The machine is new. At the end of a job it stands for the world after the lines that were run, but for a job that
-/// wanted memory.
+/// wanted memory. A reading leaves it as it was.
 pub fn artheap<S: Source, W: Sink, F: Shelf>(
     alloc: Global,
     words: &[String],
@@ -37,11 +40,15 @@ pub fn artheap<S: Source, W: Sink, F: Shelf>(
     requires is_new { StandsFor machine.old empty_world }
     requires no_entry { (F.shelved shelf.old).unfinished ≡ false }
 
-    // What a run leaves and what a soak leaves, status by status.
+    // What a run, a reading and a soak leave, status by status.
     ensures run { (regions : ℕ) → job_of (map string_bytes words.now) ≡ Some (Job.Run regions) →
         let old = outside_of (S.left source.old) (S.fault_count source.old) (W.gained sink.old) (W.fault_count sink.old) machine.old in
         let new = outside_of (S.left source.new) (S.fault_count source.new) (W.gained sink.new) (W.fault_count sink.new) machine.new in
         EndedRun regions result old new }
+    ensures read { job_of (map string_bytes words.now) ≡ Some Job.Read →
+        let old = streams_of (S.left source.old) (S.fault_count source.old) (W.gained sink.old) (W.fault_count sink.old) in
+        let new = streams_of (S.left source.new) (S.fault_count source.new) (W.gained sink.new) (W.fault_count sink.new) in
+        (machine.new ≡ machine.old) × EndedRead result old new }
     ensures soak { (start count regions : ℕ) → job_of (map string_bytes words.now) ≡ Some (Job.Soak start count regions) →
         let old = output_of (W.gained sink.old) (W.fault_count sink.old) machine.old in
         let new = output_of (W.gained sink.new) (W.fault_count sink.new) machine.new in
@@ -55,6 +62,8 @@ pub fn artheap<S: Source, W: Sink, F: Shelf>(
     // a job. A soak has no input.
     ensures run_complete { (regions : ℕ) → job_of (map string_bytes words.now) ≡ Some (Job.Run regions) → HasFewLeft (S.left source.old) →
         ¬ FaultRose (S.fault_count source.old) (S.fault_count source.new) → ¬ FaultRose (W.fault_count sink.old) (W.fault_count sink.new) → EndsWell result }
+    ensures read_complete { job_of (map string_bytes words.now) ≡ Some Job.Read → HasFewLeft (S.left source.old) →
+        ¬ FaultRose (S.fault_count source.old) (S.fault_count source.new) → ¬ FaultRose (W.fault_count sink.old) (W.fault_count sink.new) → EndsTold result }
     ensures soak_complete { (start count regions : ℕ) → job_of (map string_bytes words.now) ≡ Some (Job.Soak start count regions) →
         ¬ FaultRose (W.fault_count sink.old) (W.fault_count sink.new) → EndsWell result }
 
@@ -69,6 +78,7 @@ pub fn artheap<S: Source, W: Sink, F: Shelf>(
     match job_of(words) {
         None => Status::Usage,
         Some(Job::Run { regions }) => job_status(run_script(alloc, regions, source, sink, machine)),
+        Some(Job::Read) => list_input(alloc, source, sink),
         Some(
             Job::Soak {
                 start,

@@ -1,7 +1,7 @@
 ghost use Rattle.std.specs.Prelude.{◌≡◌, ◌≤◌, map, string_bytes, IfSome};
 ghost use Rattle.std.specs.Option.{option_copied};
 ghost use Rattle.model_numbers.specs.Numbers.{most_regions};
-ghost use Rattle.artheap_top.specs.Words.{IsPossible, job_of, number_within, option_regions, run_of, soak_job, soak_of};
+ghost use Rattle.artheap_top.specs.Words.{IsPossible, job_of, number_within, option_regions, read_of, run_of, soak_job, soak_of};
 
 use model_numbers::{DEFAULT_REGIONS, MOST_REGIONS};
 use script_lang::read_count;
@@ -13,6 +13,8 @@ pub(crate) enum Job {
     Run {
         regions: u32,
     },
+    /// A dump from the source is read and listed.
+    Read,
     /// A script that is generated from two numbers is run, and a summary put.
     Soak {
         start: u32,
@@ -52,6 +54,17 @@ fn run_job(words: &[String]) -> Option<Job>
     Some(Job::Run { regions })
 }
 
+/// The reading that is asked for where no word stands behind `read`.
+fn read_of(words: &[String]) -> Option<Job>
+    ensures job { result ≡ read_of (map string_bytes words.now) }
+    ensures possible { IfSome result IsPossible }
+{
+    match words {
+        [] => Some(Job::Read),
+        _ => None,
+    }
+}
+
 /// The soak that the words behind `soak` ask for.
 fn soak_job(words: &[String]) -> Option<Job>
     ensures job { result ≡ soak_job (map string_bytes words.now) }
@@ -80,6 +93,8 @@ pub(crate) fn job_of(words: &[String]) -> Option<Job>
     let (word, more) = words.split_first()?;
     if word.as_bytes() == b"run".as_slice() {
         run_job(more)
+    } else if word.as_bytes() == b"read".as_slice() {
+        read_of(more)
     } else if word.as_bytes() == b"soak".as_slice() {
         soak_job(more)
     } else {
