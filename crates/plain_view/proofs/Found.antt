@@ -2,6 +2,7 @@
 use Rattle.std.proofs.Common.{◌≡◌, true≢false, ℕ, zero, suc, ◌+◌, ◌<◌, ◌≤◌, ◌⊎◌, inl, inr, Bool, true, false, not, cond, nat_eq, nat_lt, List, [], ◌∷◌, Option, None, Some, length, get_or, map, slice_index, refl, sym, ap, subst, ◌∙◌, arith}
 use Rattle.std.specs.List.{find, position, position_or_len}
 use Rattle.std.specs.Option.{option_map}
+use Rattle.std.specs.Prelude.{unwrap_or}
 use Rattle.std.proofs.lemmas.Bool.{eqb-true, eq-eqb, ltb-true, ltb-false}
 use Rattle.std.proofs.lemmas.List.{get_or_default, length-map}
 use Rattle.std.proofs.lemmas.Option.{same_Some, none-some}
@@ -106,21 +107,13 @@ no-address g n e = by (object_at g n) refl
     by None none = refl
     by (Some o) found = let there = found-object g.objects n o found in absurd (no-place (λ m. m) n g.objects e o there.0 there.1)
 
--- the address of an object is that of the table
-pub some-stands : (g : Graph) (n : ℕ) (at : Addr) → Some at ≡ address_at g n → at.0 ≡ first_table g n
-some-stands g n at = by (object_at g n) refl
+-- the table has the address, and 0 without one
+pub stands : (g : Graph) (n : ℕ) (at : Addr) → at ≡ unwrap_or (address_at g n) (at_address 0) → at.0 ≡ first_table g n
+stands g n at e = ap (λ (a : Addr). a.0) e ∙ by (object_at g n) refl
   where
-    by : (found : Option Object) → object_at g n ≡ found → Some at ≡ option_map (λ (o : Object). at_address (first_table g o.number)) found → at.0 ≡ first_table g n
-    by None none e = absurd (none-some at (sym e))
-    by (Some o) found e = ap (λ (a : Addr). a.0) (same_Some at (at_address (first_table g o.number)) e) ∙ ap (first_table g) (found-object g.objects n o found).1
-
--- without one the table has 0
-pub none-stands : (g : Graph) (n : ℕ) → None ≡ address_at g n → 0 ≡ first_table g n
-none-stands g n = by (object_at g n) refl
-  where
-    by : (found : Option Object) → object_at g n ≡ found → None ≡ option_map (λ (o : Object). at_address (first_table g o.number)) found → 0 ≡ first_table g n
-    by None none e = sym (none-at-null (first_homes g.budget) g n none)
-    by (Some o) found e = absurd (none-some (at_address (first_table g o.number)) e)
+    by : (found : Option Object) → object_at g n ≡ found → (unwrap_or (option_map (λ (o : Object). at_address (first_table g o.number)) found) (at_address 0)).0 ≡ first_table g n
+    by None none = sym (none-at-null (first_homes g.budget) g n none)
+    by (Some o) found = ap (first_table g) (found-object g.objects n o found).1
 
 module _ (f : Object → ℕ) where
   -- an object of the list has its address at some place

@@ -95,10 +95,7 @@ impl<'a> View<'a> {
     fn stands_at(&self, number: u32) -> Addr
         ensures { result.0 ≡ first_table self.now.graph number }
     {
-        match self.address_of(number) {
-            Some(at) => at,
-            None => Addr(0),
-        }
+        self.address_of(number).unwrap_or(Addr(0))
     }
 
     /// What a slot holds as a number: a reference is an address, and null is 0.
