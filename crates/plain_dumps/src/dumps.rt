@@ -22,7 +22,7 @@ use std::alloc::{AllocError, Global};
 
 /// Where an object of a live process stands. `None` comes exactly where no live process has the name, or no object of it
 /// the number. It takes memory.
-#[tactic(auto, unfolding(crate::specs::Addresses::addresses), unfolding(plain_machine::specs::Worlds::StandsFor))]
+#[tactic(auto, unfolding(crate::specs::Addresses::addresses))]
 pub fn address(
     alloc: Global,
     machine: &Machine,
@@ -42,7 +42,7 @@ pub fn address(
 /// Appends the dump of a live process to the unfinished entry, with the time in milliseconds. After an error some first
 /// bytes of it may have been appended. Where no live process has the name, nothing is appended. The machine stands for
 /// the same worlds, and its objects stay where they are.
-#[tactic(auto, unfolding(crate::specs::Addresses::addresses), unfolding(plain_machine::specs::Worlds::StandsFor))]
+#[tactic(auto, unfolding(crate::specs::Addresses::addresses))]
 pub fn write_dump<F: Shelf>(
     alloc: Global,
     machine: &mut Machine,
@@ -74,7 +74,7 @@ pub fn write_dump<F: Shelf>(
 /// Appends the text of a live process's table of addresses to the unfinished entry. After an error some first bytes of it
 /// may have been appended. Where no live process has the name, nothing is appended. The machine stands for the same
 /// worlds, and its objects stay where they are.
-#[tactic(auto, unfolding(crate::specs::Addresses::addresses), unfolding(plain_machine::specs::Worlds::StandsFor))]
+#[tactic(auto, unfolding(crate::specs::Addresses::addresses))]
 pub fn write_map<F: Shelf>(
     alloc: Global,
     machine: &mut Machine,

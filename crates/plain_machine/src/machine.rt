@@ -13,7 +13,7 @@ ghost use Rattle.heap_world.specs.Acts.{act};
 ghost use Rattle.plain_machine.specs.Counts as counts;
 ghost use Rattle.plain_machine.specs.Worlds.{Does, StandsFor, forked_child};
 
-use crate::counts::{is_live, live_count, live_named, live_objects, objects_in};
+use crate::counts::{graph_in, is_live, live_count, live_named, live_objects, objects_in};
 use crate::frames::frame_count;
 use crate::part::Part;
 use crate::process::Process;
@@ -293,10 +293,11 @@ impl Machine {
     #[tactic(auto, unfolding(crate::specs::Worlds::StandsFor))]
     pub fn graph(&self, process: &Name) -> Option<&Graph>
         ensures graph { (w : World) → StandsFor self.now w → option_copied result ≡ counts.graph_of w process.now }
+        ensures own { option_copied result ≡ counts.graph_of self.now process.now }
         ensures formed { IfSome result (λ g. IsFormed g.now) }
     {
         let q = live_named(&self.processes, process)?;
-        Some(&q.part.graph)
+        Some(graph_in(q))
     }
 
     /// How many objects all live processes have together.

@@ -23,7 +23,7 @@ use script_lang::{Fed, LineError, LineFeed, Refusal, Reply, read_line, reply_tex
 use std::alloc::{AllocError, Global};
 
 /// What a line came to: its reply, if it has one, and the dump that it asks for, if it asks for one.
-#[derive(Clone, Copy, Debug, PartialEq, Eq)]
+#[derive(Clone, Copy)]
 pub struct Answered {
     pub reply: Option<Reply>,
     pub dumped: Option<Dumped>,
