@@ -7,3 +7,4 @@ pub mod Making
 pub mod PageLists
 pub mod Worlds
 pub mod Verbs
+pub mod Forks

@@ -2,6 +2,7 @@
 //! fault, is put to a sink.
 #![tactic(auto)]
 
+mod examples;
 mod input;
 mod laws;
 mod reading;

@@ -10,6 +10,8 @@ mod feeding;
 #[cfg(test)]
 mod making;
 #[cfg(test)]
+mod reading;
+#[cfg(test)]
 mod records;
 #[cfg(test)]
 mod rows;
