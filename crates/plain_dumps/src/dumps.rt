@@ -1,4 +1,4 @@
-ghost use Rattle.std.specs.Prelude.{◌≡◌, ◌≤◌, ℕ, List, None, Some, Option, true, IfOk, IfSome, OnOk, OnErr};
+ghost use Rattle.std.specs.Prelude.{◌≡◌, ◌≤◌, ℕ, List, None, Some, Ok, true, IfOk, IfSome, OnOk, OnErr};
 ghost use Rattle.ah_outside.specs.Outside.{Appended, FaultRose};
 ghost use Rattle.heap_graph.specs.Graph.{Graph};
 ghost use Rattle.heap_graph.specs.Table.{Fits};
@@ -9,6 +9,7 @@ ghost use Rattle.hprof_write.specs.TableText.{table_text};
 ghost use Rattle.hprof_write.specs.Written.{written};
 ghost use Rattle.plain_machine.specs.Counts.{graph_of};
 ghost use Rattle.plain_machine.specs.Worlds.{StandsFor};
+ghost use Rattle.plain_view.specs.Viewed.{address_at};
 ghost use Rattle.plain_dumps.specs.Addresses.{addresses};
 
 use ah_outside::Shelf;
@@ -56,7 +57,7 @@ pub fn write_dump<F: Shelf>(
     ensures failed { (w : World) (g : Graph) → StandsFor machine.old w → graph_of w process.now ≡ Some g →
         OnErr result (AppendedPrefix (F.shelved shelf.old) (dump_bytes time (written g (addresses machine.old process.now))) (F.shelved shelf.new)) }
     ensures fits { (w : World) (g : Graph) → StandsFor machine.old w → graph_of w process.now ≡ Some g → Fits (addresses machine.old process.now) g }
-    ensures none { (w : World) → StandsFor machine.old w → graph_of w process.now ≡ None → (result ≡ Ok ()) × (F.shelved shelf.new ≡ F.shelved shelf.old) }
+    ensures none { (w : World) → StandsFor machine.old w → graph_of w process.now ≡ None → (result ≡ Ok tt) × (F.shelved shelf.new ≡ F.shelved shelf.old) }
     ensures unfinished { OnOk result ((F.shelved shelf.new).unfinished ≡ true) }
     ensures cause { IfShelfFault result (FaultRose (F.fault_count shelf.old) (F.fault_count shelf.new)) }
     ensures never_falls { F.fault_count shelf.old ≤ F.fault_count shelf.new }
@@ -86,7 +87,7 @@ pub fn write_map<F: Shelf>(
         OnOk result (Appended (F.shelved shelf.old) (table_text g (addresses machine.old process.now)) (F.shelved shelf.new)) }
     ensures failed { (w : World) (g : Graph) → StandsFor machine.old w → graph_of w process.now ≡ Some g →
         OnErr result (AppendedPrefix (F.shelved shelf.old) (table_text g (addresses machine.old process.now)) (F.shelved shelf.new)) }
-    ensures none { (w : World) → StandsFor machine.old w → graph_of w process.now ≡ None → (result ≡ Ok ()) × (F.shelved shelf.new ≡ F.shelved shelf.old) }
+    ensures none { (w : World) → StandsFor machine.old w → graph_of w process.now ≡ None → (result ≡ Ok tt) × (F.shelved shelf.new ≡ F.shelved shelf.old) }
     ensures unfinished { OnOk result ((F.shelved shelf.new).unfinished ≡ true) }
     ensures cause { IfShelfFault result (FaultRose (F.fault_count shelf.old) (F.fault_count shelf.new)) }
     ensures never_falls { F.fault_count shelf.old ≤ F.fault_count shelf.new }
