@@ -14,7 +14,9 @@ const BUFFER_BYTES: usize = 65_536;
 fn message(status: Status) -> Option<&'static str> {
     match status {
         Status::Ok | Status::Refused | Status::NotDump => None,
-        Status::Usage => Some("usage: artheap run [--regions N] [--time T] | read | soak START COUNT [--regions N]"),
+        Status::Usage => Some(
+            "usage: artheap run [--regions N] [--time T] | read | soak START COUNT [--regions N]",
+        ),
         Status::ReadFault => Some("artheap: read fault"),
         Status::WriteFault => Some("artheap: write fault"),
         Status::OutOfMemory => Some("artheap: out of memory"),

@@ -1,7 +1,5 @@
 -- What is counted of lines, line by line.
-use Rattle.std.proofs.Common.{◌≡◌, ℕ, zero, suc, ◌+◌, ◌≤◌, ◌||◌, Bool, true, false, List, [], ◌∷◌, ◌++◌, Option, None, Some, cond, filter, length, nat_lt, slice_get, take, refl, sym, ◌∙◌, ap, subst, arith, append_assoc, length-append, suc-add}
-use Rattle.std.specs.Prelude.{if◌then◌else◌}
-use Rattle.std.proofs.lemmas.Bool.{le-leb}
+use Rattle.std.proofs.Common.{◌≡◌, ℕ, zero, suc, ◌+◌, ◌||◌, Bool, true, false, List, [], ◌∷◌, ◌++◌, Option, None, Some, cond, filter, length, nat_lt, slice_get, take, refl, sym, ◌∙◌, ap, subst, arith, append_assoc, length-append, suc-add}
 use Rattle.std.proofs.lemmas.Bool.Decides.{nat_tests}
 use Rattle.std.proofs.lemmas.List.{take_more}
 use Rattle.std.proofs.lemmas.List.Elements.{filter-append}
@@ -11,9 +9,7 @@ use Rattle.heap_world.specs.declared.reply.Reply.{Reply}
 use Rattle.heap_world.specs.Effect.{is_refusal}
 use Rattle.heap_world.specs.Run.{Answer}
 use Rattle.heap_world.specs.World.{World, first_world}
-use Rattle.model_numbers.specs.Numbers.{line_limit}
 use Rattle.plain_machine.specs.Worlds.{StandsFor}
-use Rattle.script_lang.specs.Feeding.{kept_line}
 use Rattle.script_make.specs.Lines.{made_line, next_state}
 use Rattle.script_make.specs.Script.{made_lines, soak_lines, state_after}
 use Rattle.script_make.specs.declared.state.MakeState.{MakeState}
@@ -25,10 +21,6 @@ use Rattle.script_report.specs.Report.{answers_of, has_refusal, step_line, with_
 use Rattle.artheap_top.specs.Soaking.{EndedSoak, HasSoaked, counted, no_lines, one_more_if, SoakOutput}
 use Rattle.artheap_top.specs.Summary.{collection_count, refusal_count, summary, summary_of, summary_text, tells_collection}
 use Rattle.script_report.proofs.Reports.{answers-more, next_answers, world-more}
-
--- a short line is kept
-pub short_kept : (line : List ℕ) → length line ≤ line_limit → Some line ≡ kept_line line
-short_kept line short = ap (λ b. if b then Some line else None) (sym (le-leb (length line) line_limit short))
 
 -- how many of the answers with one more pass a test
 count-more : (p : Answer → Bool) (budget : ℕ) (ls : List (List ℕ)) (l : List ℕ)

@@ -8,3 +8,4 @@ pub mod Header
 pub mod Unique
 pub mod Bodies
 pub mod LawLemmas
+pub mod EveryText

@@ -1,11 +1,11 @@
-ghost use Rattle.std.specs.Prelude.{◌≡◌, ℕ, ◌<◌, ◌^◌, ◌≤◌, List, ◌++◌, length};
+ghost use Rattle.std.specs.Prelude.{◌≡◌, ◌⊎◌, ℕ, ◌<◌, ◌^◌, ◌≤◌, List, ◌++◌, length};
 ghost use Rattle.std.specs.List.{All};
 ghost use Rattle.hprof_records.specs.declared.sub_record.SubRecord.{SubRecord};
 ghost use Rattle.hprof_records.specs.declared.top_record.TopRecord.{TopRecord};
 ghost use Rattle.hprof_records.specs.Parts.{bytes_of_parts};
 ghost use Rattle.hprof_records.specs.Records.{dump_bytes};
-ghost use Rattle.hprof_records.specs.Formed.{IsPart};
-ghost use Rattle.hprof_records.specs.Dump.{AreRecords};
+ghost use Rattle.hprof_records.specs.Formed.{IsByte, IsPart};
+ghost use Rattle.hprof_records.specs.Dump.{AreRecords, IsDump};
 ghost use Rattle.hprof_read.specs.Fault.{NoRecord, NoPart, IsFirstFault};
 ghost use Rattle.hprof_read.specs.declared.read_error.ReadError.{ReadError};
 
@@ -29,4 +29,9 @@ pub fn no_fault_in_dumps()
 /// A text has at most one first fault.
 pub fn first_faults()
     ensures { (e f : ReadError) (text : List ℕ) → IsFirstFault e text → IsFirstFault f text → e ≡ f }
+{}
+
+/// Every text of bytes is a dump, or has a first fault.
+pub fn dump_or_fault()
+    ensures { (text : List ℕ) → All IsByte text → IsDump text ⊎ ((e : ReadError) × IsFirstFault e text) }
 {}

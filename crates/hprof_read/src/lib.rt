@@ -10,5 +10,5 @@ mod read_error;
 mod records;
 
 pub use dump::{Dump, TopList, read_dump};
-pub use laws::{first_faults, longest_fronts, no_fault_in_dumps, one_list};
+pub use laws::{dump_or_fault, first_faults, longest_fronts, no_fault_in_dumps, one_list};
 pub use read_error::ReadError;

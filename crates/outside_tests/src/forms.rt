@@ -1,4 +1,5 @@
 //! The forms in memory: what they give and take, and where they fail.
+use crate::wanted::{does, failed, has, has_entry, moves};
 use ah_outside::{
     Failed, MemoryShelf, MemorySink, MemorySource, Shelf, Sink, SoundShelf, SoundSink, SoundSource,
     Source, put_all,
@@ -19,11 +20,11 @@ fn gives_pieces_and_fails_at_its_numbers(rt: HostRuntime) -> Result<(), Fail> {
         (Ok(0), b"", 2),
     ];
     for (answer, left, faults) in expected {
-        assert_eq!(rt; source.take(&mut buf), answer);
-        assert_eq!(rt; source.left(), left);
-        assert_eq!(rt; source.faults(), faults);
+        moves(&rt, source.take(&mut buf), answer);
+        has(&rt, source.left(), left);
+        failed(&rt, source.faults(), faults);
     }
-    assert_eq!(rt; &buf[..3], b"gef".as_slice());
+    has(&rt, &buf[..3], b"gef");
     Ok(())
 }
 
@@ -32,10 +33,10 @@ fn gives_all_and_ends(rt: HostRuntime) {
     let mut source = SoundSource::new(b"abcde");
     let mut buf = [0; 3];
     for answer in [3, 2, 0] {
-        assert_eq!(rt; source.take(&mut buf), Ok(answer));
+        moves(&rt, source.take(&mut buf), Ok(answer));
     }
-    assert_eq!(rt; buf, *b"dec");
-    assert_eq!(rt; source.faults(), 0);
+    has(&rt, &buf, b"dec");
+    failed(&rt, source.faults(), 0);
 }
 
 #[test]
@@ -51,9 +52,9 @@ fn takes_what_it_has_room_for_and_fails_at_its_numbers(rt: HostRuntime) -> Resul
         (b"hi", Err(Failed), b"abcdefg", 2),
     ];
     for (piece, answer, bytes, faults) in expected {
-        assert_eq!(rt; sink.put(piece), answer);
-        assert_eq!(rt; sink.bytes(), bytes);
-        assert_eq!(rt; sink.faults(), faults);
+        moves(&rt, sink.put(piece), answer);
+        has(&rt, sink.bytes(), bytes);
+        failed(&rt, sink.faults(), faults);
     }
     Ok(())
 }
@@ -61,54 +62,54 @@ fn takes_what_it_has_room_for_and_fails_at_its_numbers(rt: HostRuntime) -> Resul
 #[test]
 fn keeps_what_was_put_before_a_fault(rt: HostRuntime) -> Result<(), Fail> {
     let mut sink = MemorySink::new(rt.alloc(), 4, &[])?;
-    assert_eq!(rt; put_all(&mut sink, b"ab"), Ok(()));
-    assert_eq!(rt; put_all(&mut sink, b"cde"), Err(Failed));
-    assert_eq!(rt; sink.bytes(), b"abcd".as_slice());
+    does(&rt, put_all(&mut sink, b"ab"), Ok(()));
+    does(&rt, put_all(&mut sink, b"cde"), Err(Failed));
+    has(&rt, sink.bytes(), b"abcd");
     Ok(())
 }
 
 #[test]
 fn takes_each_piece(rt: HostRuntime) {
     let mut sink = SoundSink::new();
-    assert_eq!(rt; sink.put(b"abc"), Ok(3));
-    assert_eq!(rt; put_all(&mut sink, b"de"), Ok(()));
-    assert_eq!(rt; sink.faults(), 0);
+    moves(&rt, sink.put(b"abc"), Ok(3));
+    does(&rt, put_all(&mut sink, b"de"), Ok(()));
+    failed(&rt, sink.faults(), 0);
 }
 
 #[test]
 fn keeps_bytes_and_fails_at_its_numbers(rt: HostRuntime) -> Result<(), Fail> {
     let mut shelf = MemoryShelf::new(rt.alloc(), 1, 7, &[3])?;
-    assert_eq!(rt; shelf.begin(b"ab"), Ok(()));
-    assert_eq!(rt; shelf.put(b"cde"), Ok(()));
-    assert_eq!(rt; shelf.put(b"f"), Err(Failed), "a chosen call");
-    assert_eq!(rt; shelf.put(b"fgh"), Err(Failed), "room for two");
-    assert_eq!(rt; shelf.put(b"fg"), Ok(()));
-    assert_eq!(rt; shelf.count(), 1);
-    assert_eq!(rt; shelf.name_at(0), b"ab".as_slice());
-    assert_eq!(rt; shelf.bytes_at(0), b"cdefg".as_slice());
-    assert!(rt; !shelf.closed_at(0));
-    assert_eq!(rt; shelf.faults(), 2);
+    does(&rt, shelf.begin(b"ab"), Ok(()));
+    does(&rt, shelf.put(b"cde"), Ok(()));
+    // a chosen call
+    does(&rt, shelf.put(b"f"), Err(Failed));
+    // room for two
+    does(&rt, shelf.put(b"fgh"), Err(Failed));
+    does(&rt, shelf.put(b"fg"), Ok(()));
+    has_entry(&rt, &shelf, b"ab", b"cdefg", false);
+    failed(&rt, shelf.faults(), 2);
     Ok(())
 }
 
 #[test]
 fn holds_as_many_entries_and_names_as_it_may(rt: HostRuntime) -> Result<(), Fail> {
     let mut shelf = MemoryShelf::new(rt.alloc(), 1, 3, &[])?;
-    assert_eq!(rt; shelf.begin(b"abcd"), Err(Failed), "room for three");
-    assert_eq!(rt; shelf.begin(b"abc"), Ok(()));
-    assert_eq!(rt; shelf.finish(), Ok(()));
-    assert_eq!(rt; shelf.begin(b""), Err(Failed), "one entry stands");
-    assert_eq!(rt; shelf.count(), 1);
-    assert!(rt; shelf.closed_at(0));
-    assert_eq!(rt; shelf.faults(), 2);
+    // room for three
+    does(&rt, shelf.begin(b"abcd"), Err(Failed));
+    does(&rt, shelf.begin(b"abc"), Ok(()));
+    does(&rt, shelf.finish(), Ok(()));
+    // one entry stands
+    does(&rt, shelf.begin(b""), Err(Failed));
+    has_entry(&rt, &shelf, b"abc", b"", true);
+    failed(&rt, shelf.faults(), 2);
     Ok(())
 }
 
 #[test]
 fn takes_an_entry(rt: HostRuntime) {
     let mut shelf = SoundShelf::new();
-    assert_eq!(rt; shelf.begin(b"first"), Ok(()));
-    assert_eq!(rt; shelf.put(b"abc"), Ok(()));
-    assert_eq!(rt; shelf.finish(), Ok(()));
-    assert_eq!(rt; shelf.faults(), 0);
+    does(&rt, shelf.begin(b"first"), Ok(()));
+    does(&rt, shelf.put(b"abc"), Ok(()));
+    does(&rt, shelf.finish(), Ok(()));
+    failed(&rt, shelf.faults(), 0);
 }

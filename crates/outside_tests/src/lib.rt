@@ -6,4 +6,6 @@ mod forms;
 #[cfg(test)]
 mod readers;
 #[cfg(test)]
+mod wanted;
+#[cfg(test)]
 mod writers;

@@ -1,4 +1,5 @@
 //! Readers as sources: what they give, and when the output is written out first.
+use crate::wanted::{does, failed, has, moves, tells};
 use ah_outside::{BufferedSink, Failed, FlushingSource, ReadSource, SharedWriter, Sink, Source};
 use std::cell::RefCell;
 use std::io;
@@ -21,10 +22,10 @@ fn reads_and_counts_faults(rt: HostRuntime) {
     let mut buf = [0; 3];
     let expected = [(Ok(3), 0), (Ok(2), 0), (Err(Failed), 1), (Err(Failed), 2)];
     for (answer, faults) in expected {
-        assert_eq!(rt; source.take(&mut buf), answer);
-        assert_eq!(rt; source.faults(), faults);
+        moves(&rt, source.take(&mut buf), answer);
+        failed(&rt, source.faults(), faults);
     }
-    assert_eq!(rt; buf, *b"dec");
+    has(&rt, &buf, b"dec");
 }
 
 // Keeps what is written, and a `?` for each read.
@@ -65,17 +66,17 @@ fn writes_out_before_it_reads(rt: HostRuntime) -> io::Result<()> {
     let mut sink = BufferedSink::new(&writer);
     let mut source = FlushingSource::new(Log(&log), &writer);
     let mut buf = [0; 4];
-    assert_eq!(rt; sink.put(b"ab"), Ok(2));
-    assert_eq!(rt; sink.put(b"c"), Ok(1));
-    assert_eq!(rt; source.take(&mut buf), Ok(0));
-    assert_eq!(rt; sink.put(b"de"), Ok(2));
-    assert_eq!(rt; source.take(&mut buf), Ok(0));
-    assert_eq!(rt; sink.put(b"f"), Ok(1));
-    assert_eq!(rt; writer.flush(), Ok(()));
-    assert_eq!(rt; writer.has_failed(), false);
-    assert_eq!(rt; source.faults(), 0);
+    moves(&rt, sink.put(b"ab"), Ok(2));
+    moves(&rt, sink.put(b"c"), Ok(1));
+    moves(&rt, source.take(&mut buf), Ok(0));
+    moves(&rt, sink.put(b"de"), Ok(2));
+    moves(&rt, source.take(&mut buf), Ok(0));
+    moves(&rt, sink.put(b"f"), Ok(1));
+    does(&rt, writer.flush(), Ok(()));
+    tells(&rt, writer.has_failed(), false);
+    failed(&rt, source.faults(), 0);
     drop(writer);
-    assert_eq!(rt; log.into_inner().as_slice(), b"abc?de?f".as_slice());
+    has(&rt, &log.into_inner(), b"abc?de?f");
     Ok(())
 }
 
@@ -86,10 +87,10 @@ fn reads_nothing_where_it_can_not_write_out(rt: HostRuntime) -> io::Result<()> {
     let mut sink = BufferedSink::new(&writer);
     let mut source = FlushingSource::new(b"input".as_slice(), &writer);
     let mut buf = [0; 4];
-    assert_eq!(rt; sink.put(b"abcdef"), Ok(6));
-    assert_eq!(rt; source.take(&mut buf), Err(Failed));
-    assert_eq!(rt; source.faults(), 1);
-    assert_eq!(rt; writer.has_failed(), true);
-    assert_eq!(rt; buf, [0; 4]);
+    moves(&rt, sink.put(b"abcdef"), Ok(6));
+    moves(&rt, source.take(&mut buf), Err(Failed));
+    failed(&rt, source.faults(), 1);
+    tells(&rt, writer.has_failed(), true);
+    has(&rt, &buf, &[0; 4]);
     Ok(())
 }

@@ -1,7 +1,11 @@
 //! Writers as sinks, and files as entries of a shelf.
+ghost use Rattle.std.specs.Prelude.{◌≡◌, false};
+
+use crate::wanted::{does, failed, has, moves, tells};
 use ah_outside::{BufferedSink, Failed, FolderShelf, SharedWriter, Shelf, Sink, WriteSink};
 use std::io::BufWriter;
 use std::os::unix::fs::symlink;
+use std::process::Abort;
 use std::test::Fail;
 use std::{fs, io};
 
@@ -9,12 +13,12 @@ use std::{fs, io};
 fn writes_and_flushes(rt: HostRuntime) -> Result<(), Fail> {
     let mut out = Vec::new(rt.alloc());
     let mut sink = WriteSink::new(BufWriter::new(rt.alloc(), &mut out)?);
-    assert_eq!(rt; sink.put(b"abc"), Ok(3));
-    assert_eq!(rt; sink.put(b""), Ok(0));
-    assert_eq!(rt; sink.flush(), Ok(()));
-    assert_eq!(rt; sink.faults(), 0);
+    moves(&rt, sink.put(b"abc"), Ok(3));
+    moves(&rt, sink.put(b""), Ok(0));
+    does(&rt, sink.flush(), Ok(()));
+    failed(&rt, sink.faults(), 0);
     drop(sink);
-    assert_eq!(rt; out.as_slice(), b"abc".as_slice());
+    has(&rt, &out, b"abc");
     Ok(())
 }
 
@@ -24,8 +28,8 @@ fn counts_what_is_not_taken(rt: HostRuntime) {
     let mut sink = WriteSink::new(&mut room[..]);
     let expected = [(Ok(3), 0), (Ok(1), 0), (Err(Failed), 1), (Err(Failed), 2)];
     for (answer, faults) in expected {
-        assert_eq!(rt; sink.put(b"abc"), answer);
-        assert_eq!(rt; sink.faults(), faults);
+        moves(&rt, sink.put(b"abc"), answer);
+        failed(&rt, sink.faults(), faults);
     }
 }
 
@@ -43,14 +47,28 @@ fn holds_back_and_counts_what_is_not_taken(rt: HostRuntime) -> io::Result<()> {
         (b"", Ok(0), 1),
     ];
     for (piece, answer, faults) in expected {
-        assert_eq!(rt; sink.put(piece), answer);
-        assert_eq!(rt; sink.faults(), faults);
-        assert_eq!(rt; writer.has_failed(), faults > 0);
+        moves(&rt, sink.put(piece), answer);
+        failed(&rt, sink.faults(), faults);
+        tells(&rt, writer.has_failed(), faults > 0);
     }
-    assert_eq!(rt; writer.flush(), Err(Failed));
+    does(&rt, writer.flush(), Err(Failed));
     drop(writer);
-    assert_eq!(rt; room, *b"abcd");
+    has(&rt, &room, b"abcd");
     Ok(())
+}
+
+/// Puts two entries, of two pieces and of none, and then tries one whose name is no file's.
+fn puts_entries<S: Shelf>(rt: &impl Abort, shelf: &mut S, first: &str, second: &str)
+    requires { (S.shelved shelf.old).unfinished ≡ false }
+{
+    does(rt, shelf.begin(first.as_bytes()), Ok(()));
+    does(rt, shelf.put(b"abc"), Ok(()));
+    does(rt, shelf.put(b"de"), Ok(()));
+    does(rt, shelf.finish(), Ok(()));
+    does(rt, shelf.begin(second.as_bytes()), Ok(()));
+    does(rt, shelf.finish(), Ok(()));
+    does(rt, shelf.begin(b"folder/file"), Err(Failed));
+    failed(rt, shelf.faults(), 1);
 }
 
 #[test]
@@ -59,17 +77,13 @@ fn makes_files_in_place_of_others(rt: HostRuntime) -> Result<(), Fail> {
     fs::write(&rt, target, "kept")?;
     fs::write(&rt, first, "what stood there before")?;
     symlink(&rt, target, second)?;
-    let mut shelf = FolderShelf::new(&rt);
-    assert_eq!(rt; shelf.begin(first.as_bytes()), Ok(()));
-    assert_eq!(rt; shelf.put(b"abc"), Ok(()));
-    assert_eq!(rt; shelf.put(b"de"), Ok(()));
-    assert_eq!(rt; shelf.finish(), Ok(()));
-    assert_eq!(rt; shelf.begin(second.as_bytes()), Ok(()));
-    assert_eq!(rt; shelf.finish(), Ok(()));
-    assert_eq!(rt; shelf.begin(b"folder/file"), Err(Failed));
-    assert_eq!(rt; shelf.faults(), 1);
+    puts_entries(&rt, &mut FolderShelf::new(&rt), first, second);
     for (name, text) in [(target, "kept"), (first, "abcde"), (second, "")] {
-        assert_eq!(rt; fs::read_to_string(&rt, name)?.as_str(), text);
+        has(
+            &rt,
+            fs::read_to_string(&rt, name)?.as_bytes(),
+            text.as_bytes(),
+        );
         fs::remove_file(&rt, name)?;
     }
     Ok(())

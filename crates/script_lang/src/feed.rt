@@ -2,7 +2,7 @@ ghost use Rattle.std.specs.Prelude.{◌≡◌, ◌<◌, ◌≤◌, ◌+◌, ◌-
 ghost use Rattle.std.specs.Option.{option_copied};
 ghost use Rattle.script_lang.specs.Parts.{lines};
 ghost use Rattle.script_lang.specs.Feeding.{kept_line, fresh_feed, first_part, has_line_feed, taken, grown, has_bytes, after_feeding, after_end, at_next, line_at, numbered, ahead, FedLine, LinesCome};
-ghost use Rattle.script_lang.specs.FedLines.{fed_line};
+ghost use Rattle.script_lang.specs.FedLines.{fed_bytes, fed_line};
 ghost use Rattle.script_lang.specs.FeedState.{IsOneLine};
 
 use crate::parts::cut;
@@ -79,7 +79,8 @@ impl KeptBytes {
 /// A line that a `LineFeed` hands out. Lines are numbered from 1.
 #[derive(Clone, Copy, Debug, Drop)]
 pub enum Fed<'a> {
-    /// A line of at most 4,096 bytes, without its line feed. A carriage return belongs to the bytes.
+    /// A line of at most 4,096 bytes, without its line feed. A carriage return belongs to the bytes. With more bytes
+    /// it means a line that is too long.
     Line { number: u64, bytes: &'a [u8] },
     /// A line of more than 4,096 bytes.
     TooLong { number: u64 },
@@ -159,6 +160,7 @@ impl LineFeed {
     pub fn line(&self) -> Option<Fed<'_>>
         ensures whole { MatchOption result (self.now.whole ≡ false) (λ fed. self.now.whole ≡ true) }
         ensures line { IfSome result (λ fed. fed_line fed ≡ line_at self.now) }
+        ensures bytes { IfSome result (λ fed. fed_bytes fed ≡ self.now.kept) }
         ensures one_line { IfSome result (λ fed. IsOneLine (fed_line fed).kept) }
     {
         if !self.is_whole {

@@ -1,10 +1,10 @@
 -- A run of a script from a source: how it begins, goes on, ends, and stops.
-use Rattle.std.proofs.Common.{◌≡◌, inl, inr, ℕ, ◌+◌, ◌<◌, ◌≤◌, Bool, true, false, List, [], ◌∷◌, ◌++◌, Option, None, Some, Result, Ok, Err, MatchResult, length, map, take, drop, refl, sym, ◌∙◌, ap, subst, arith, append_assoc, length-append}
-use Rattle.std.specs.Prelude.{IfSome, ◌↔◌, nat_lt}
+use Rattle.std.proofs.Common.{◌≡◌, inl, inr, ℕ, ◌+◌, ◌<◌, ◌≤◌, Bool, true, false, List, [], ◌∷◌, ◌++◌, Option, Result, Ok, Err, MatchResult, length, map, take, drop, refl, sym, ◌∙◌, ap, subst, arith, append_assoc, length-append}
+use Rattle.std.specs.Prelude.{nat_lt}
 use Rattle.std.proofs.lemmas.Bool.{ltb-false}
 use Rattle.std.proofs.lemmas.List.{append-nil, take-append-drop}
 use Rattle.std.proofs.Math.Seq.{take-append-add}
-use Rattle.ah_outside.specs.Outside.{FaultRose, Gave, Gained}
+use Rattle.ah_outside.specs.Outside.{FaultRose, Gave}
 use Rattle.heap_world.specs.Isolation.{NoNameTaken}
 use Rattle.heap_world.specs.World.{World, first_world}
 use Rattle.model_numbers.specs.Numbers.{input_limit, piece_bytes}

@@ -1,5 +1,5 @@
 -- The last line of a text: it has bytes, or there is none.
-use Rattle.std.proofs.Common.{◌≡◌, ℕ, ◌<◌, ◌≤◌, ◌||◌, Bool, true, false, List, [], ◌∷◌, ◌++◌, None, Some, length, nat_le, refl, sym, ◌∙◌, ap, subst, arith}
+use Rattle.std.proofs.Common.{◌≡◌, ℕ, ◌<◌, ◌||◌, Bool, true, false, List, [], ◌∷◌, ◌++◌, None, Some, length, nat_le, refl, sym, ◌∙◌, ap, subst, arith}
 use Rattle.std.specs.Prelude.{if◌then◌else◌}
 use Rattle.model_numbers.specs.Numbers.{line_limit}
 use Rattle.script_lang.specs.Feeding.{Feed, has_bytes, kept_line}

@@ -1,5 +1,5 @@
 -- How a run of a script may end, and what it leaves: each ending relates what was outside before the run to what is there after it.
-use Rattle.std.specs.Prelude.{◌≡◌, ◌≢◌, ◌⊎◌, ℕ, ◌+◌, ◌<◌, ◌≤◌, Bool, true, false, List, [], ◌∷◌, ◌++◌, Option, length, map, take}
+use Rattle.std.specs.Prelude.{◌≡◌, ◌≢◌, ◌⊎◌, ℕ, ◌+◌, ◌<◌, ◌≤◌, Bool, true, false, List, [], ◌∷◌, ◌++◌, length, map, take}
 use Rattle.ah_outside.specs.Outside.{FaultRose, Gave, Gained}
 use Rattle.model_numbers.specs.Numbers.{input_limit, piece_bytes}
 use Rattle.heap_world.specs.Isolation.{NoNameTaken}

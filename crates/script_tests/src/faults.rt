@@ -1,9 +1,10 @@
 //! Where a run stops when its source or its sink fails.
-use crate::call::call;
-use ah_outside::{MemorySink, MemorySource};
+use crate::call::{Called, Request, call, gives};
+use crate::wanted::{counts, ends, has, holds, sums, tells};
 use artheap_top::Status;
 use class_layout::Name;
 use std::alloc::{AllocError, Global};
+use std::process::Abort;
 use std::test::Fail;
 
 /// A line of a script, its line in the report, and then how many processes live and how many objects they have.
@@ -164,29 +165,27 @@ fn wanted_after(alloc: Global, replies: usize, lines: usize) -> Result<Wanted, A
     Ok(wanted)
 }
 
-/// What a run left.
-#[derive(Drop)]
-struct Ran {
-    status: Status,
-    report: Vec<u8>,
-    taken: usize,
-    live: usize,
-    objects: u128,
+/// Runs the script with these calls of the source and of the sink failing.
+fn run_with(alloc: Global, takes: &[u64], puts: &[u64]) -> Result<Called, AllocError> {
+    let text = script(alloc)?;
+    call(
+        alloc,
+        &Request {
+            words: &["run"],
+            script: &text,
+            piece: PIECE,
+            takes,
+            puts,
+        },
+    )
 }
 
-/// Runs the script with these calls of the source and of the sink failing.
-fn run_with(alloc: Global, takes: &[u64], puts: &[u64]) -> Result<Ran, AllocError> {
-    let text = script(alloc)?;
-    let mut source = MemorySource::new(alloc, text.as_slice(), PIECE, takes)?;
-    let mut sink = MemorySink::new(alloc, 1_000, puts)?;
-    let called = call(alloc, &["run"], &mut source, &mut sink)?;
-    Ok(Ran {
-        status: called.status,
-        report: Vec::from_slice(alloc, sink.bytes())?,
-        taken: text.len().saturating_sub(source.left().len()),
-        live: called.machine.live_count(),
-        objects: called.machine.objects(),
-    })
+/// A run took so many of the script's bytes, and left what is wanted.
+fn left(rt: &impl Abort, called: &Called, taken: usize, all: usize, wanted: &Wanted) {
+    counts(rt, called.left, all.saturating_sub(taken));
+    has(rt, &called.report, &wanted.report);
+    counts(rt, called.machine.live_count(), wanted.live);
+    sums(rt, called.machine.objects(), wanted.objects);
 }
 
 /// The bytes that a source with pieces has given once it gave so many: whole pieces, or all.
@@ -199,22 +198,23 @@ fn each_take_may_fail(rt: HostRuntime) -> Result<(), Fail> {
     let alloc = rt.alloc();
     let all = script(alloc)?.len();
     for k in 0..100 {
-        let ran = run_with(alloc, &[k + 1], &[])?;
+        let called = run_with(alloc, &[k + 1], &[])?;
         let taken = usize::from(k as u8).saturating_mul(PIECE).min(all);
         let lines = lines_within(taken);
-        let wanted = wanted_after(alloc, lines, lines)?;
-        assert_eq!(rt; ran.report.as_slice(), wanted.report.as_slice());
-        assert_eq!(rt;
-            (ran.taken, ran.live, ran.objects),
-            (taken, wanted.live, wanted.objects)
+        left(
+            &rt,
+            &called,
+            taken,
+            all,
+            &wanted_after(alloc, lines, lines)?,
         );
-        if ran.status == Status::Refused {
-            assert_eq!(rt; lines, STEPS.len());
+        if called.status == Status::Refused {
+            counts(&rt, lines, STEPS.len());
             return Ok(());
         }
-        assert_eq!(rt; ran.status, Status::ReadFault);
+        ends(&rt, called.status, Status::ReadFault);
     }
-    assert!(rt; false);
+    holds(&rt, false);
     Ok(())
 }
 
@@ -223,17 +223,13 @@ fn each_put_may_fail(rt: HostRuntime) -> Result<(), Fail> {
     let alloc = rt.alloc();
     let all = script(alloc)?.len();
     for k in 0..STEPS.len() {
-        let ran = run_with(alloc, &[], &[k as u64 + 1])?;
+        let called = run_with(alloc, &[], &[k as u64 + 1])?;
         let wanted = wanted_after(alloc, k, k + 1)?;
-        assert_eq!(rt; ran.status, Status::WriteFault);
-        assert_eq!(rt; ran.report.as_slice(), wanted.report.as_slice());
-        assert_eq!(rt; ran.taken, whole_pieces(wanted.taken, all));
-        assert_eq!(rt; (ran.live, ran.objects), (wanted.live, wanted.objects));
+        ends(&rt, called.status, Status::WriteFault);
+        left(&rt, &called, whole_pieces(wanted.taken, all), all, &wanted);
     }
-    assert_eq!(rt;
-        run_with(alloc, &[], &[STEPS.len() as u64 + 1])?.status,
-        Status::Refused
-    );
+    let called = run_with(alloc, &[], &[STEPS.len() as u64 + 1])?;
+    ends(&rt, called.status, Status::Refused);
     Ok(())
 }
 
@@ -251,16 +247,17 @@ fn remarks_behind(alloc: Global, remarks: usize) -> Result<Vec<u8>, AllocError> 
 fn a_failed_put_ends_the_taking(rt: HostRuntime) -> Result<(), Fail> {
     let alloc = rt.alloc();
     let text = remarks_behind(alloc, 20_000)?;
-    assert_eq!(rt; text.len(), 40_053);
-    let mut source = MemorySource::new(alloc, text.as_slice(), 40_053, &[])?;
-    let mut sink = MemorySink::new(alloc, 1_000, &[2])?;
-    let called = call(alloc, &["run"], &mut source, &mut sink)?;
-    assert_eq!(rt; called.status, Status::WriteFault);
-    assert_eq!(rt; sink.bytes(), b"1: class 2\n".as_slice());
-    assert!(rt; source.left().len() >= 35_905);
-    assert_eq!(rt;
-        called.machine.object_count(&Name::of(b"zygote").unwrap()),
-        Some(1)
-    );
+    counts(&rt, text.len(), 40_053);
+    let made = Request {
+        words: &["run"],
+        script: &text,
+        piece: 40_053,
+        takes: &[],
+        puts: &[2],
+    };
+    let called = gives(&rt, alloc, &made, b"1: class 2\n", Status::WriteFault)?;
+    holds(&rt, called.left >= 35_905);
+    let zygote = Name::of(b"zygote").unwrap();
+    tells(&rt, called.machine.object_count(&zygote), Some(1));
     Ok(())
 }

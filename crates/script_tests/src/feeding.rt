@@ -1,37 +1,49 @@
 //! Lines from the pieces of a text.
-ghost use Rattle.std.specs.Prelude.{◌≡◌, false, OnOk};
+ghost use Rattle.std.specs.Prelude.{◌≡◌, ◌≤◌, false, OnOk};
+ghost use Rattle.script_lang.specs.FedLines.{fed_line};
 
+use crate::wanted::has;
 use script_lang::{Fed, LineFeed};
 use std::alloc::{AllocError, Global};
+use std::process::Abort;
 use std::test::Fail;
 
-type Lines = Vec<(u64, Option<Vec<u8>>)>;
+// Notes a line: its number, which is at most 9, a blank, its bytes, and a line feed.
+fn note(noted: &mut Vec<u8>, fed: &Fed<'_>) -> Result<(), AllocError>
+    ensures { OnOk result ((fed_line fed.now).number ≤ 9) }
+{
+    let number = match *fed {
+        Fed::Line { number, .. } => number,
+        Fed::TooLong { number } => number,
+    };
+    if number > 9 {
+        return Err(AllocError);
+    }
+    noted.push(b"0123456789"[number as usize])?;
+    noted.push(b' ')?;
+    noted.extend_from_slice(match *fed {
+        Fed::Line { bytes, .. } => bytes,
+        Fed::TooLong { .. } => b"too long",
+    })?;
+    noted.push(b'\n')?;
+    Ok(())
+}
 
-// Notes the line, if it is whole, and begins the next one. Numbers up to 99 do here.
-fn note_line(alloc: Global, feed: &mut LineFeed, lines: &mut Lines) -> Result<(), AllocError>
+// Notes the line, if it is whole, and begins the next one.
+fn note_line(feed: &mut LineFeed, noted: &mut Vec<u8>) -> Result<(), AllocError>
     ensures whole { OnOk result (feed.new.whole ≡ false) }
     ensures ended { OnOk result (feed.new.ended ≡ feed.old.ended) }
 {
-    let noted = match feed.line() {
-        None => return Ok(()),
-        Some(Fed::Line { number, bytes }) => (number, Some(Vec::from_slice(alloc, bytes)?)),
-        Some(Fed::TooLong { number }) => (number, None),
+    let Some(fed) = feed.line() else {
+        return Ok(());
     };
-    if noted.0 > 99 {
-        return Err(AllocError);
-    }
-    lines.push(noted)?;
+    note(noted, &fed)?;
     feed.next();
     Ok(())
 }
 
 // Feeds a piece, and notes the lines that come.
-fn feed_piece(
-    alloc: Global,
-    feed: &mut LineFeed,
-    piece: &[u8],
-    lines: &mut Lines,
-) -> Result<(), AllocError>
+fn feed_piece(feed: &mut LineFeed, piece: &[u8], noted: &mut Vec<u8>) -> Result<(), AllocError>
     requires unfinished { feed.old.whole ≡ false }
     requires not_ended { feed.old.ended ≡ false }
     ensures whole { OnOk result (feed.new.whole ≡ false) }
@@ -41,64 +53,63 @@ fn feed_piece(
     while !rest.is_empty() {
         let taken = feed.feed(rest);
         rest = &rest[taken..];
-        note_line(alloc, feed, lines)?;
+        note_line(feed, noted)?;
     }
     Ok(())
 }
 
-// The lines that come of a text in pieces of this size.
-fn lines_by(alloc: Global, text: &[u8], size: usize) -> Result<Lines, AllocError> {
+// The lines that come of a text in pieces of this size, as they are noted.
+fn lines_by(alloc: Global, text: &[u8], size: usize) -> Result<Vec<u8>, AllocError> {
     let mut feed = LineFeed::new(alloc)?;
-    let mut lines = Vec::new(alloc);
+    let mut noted = Vec::new(alloc);
     for piece in text.chunks(size.max(1)) {
-        feed_piece(alloc, &mut feed, piece, &mut lines)?;
+        feed_piece(&mut feed, piece, &mut noted)?;
     }
     feed.end();
-    note_line(alloc, &mut feed, &mut lines)?;
-    Ok(lines)
+    note_line(&mut feed, &mut noted)?;
+    Ok(noted)
 }
 
+// A text gives these lines in pieces of any size.
+fn gives_lines(
+    rt: &impl Abort,
+    alloc: Global,
+    text: &[u8],
+    wanted: &[u8],
+) -> Result<(), AllocError> {
+    for size in [1, 2, 3, 7, 20_000] {
+        has(rt, &lines_by(alloc, text, size)?, wanted);
+    }
+    Ok(())
+}
+
+// Bytes with more behind them: the longest line of `a`, and another text.
+fn longest_between(alloc: Global, front: &[u8], end: &[u8]) -> Result<Vec<u8>, AllocError> {
+    let mut text = Vec::from_slice(alloc, front)?;
+    text.extend_from_slice(&vec![in alloc; b'a'; 4_096]?)?;
+    text.extend_from_slice(end)?;
+    Ok(text)
+}
+
+// Six lines, of which the third is the longest and the fourth is too long. The last has no line feed.
+fn six_lines(alloc: Global) -> Result<Vec<u8>, AllocError> {
+    let mut text = longest_between(alloc, b"first\r\n\n", b"\n")?;
+    text.extend_from_slice(&longest_between(alloc, b"b", b"\n\nlast")?)?;
+    Ok(text)
+}
+
+// The last line has no line feed, then one, and then a blank line follows.
 #[test]
 fn pieces_of_any_size_give_the_same_lines(rt: HostRuntime) -> Result<(), Fail> {
     let alloc = rt.alloc();
-    let longest = vec![in alloc; b'a'; 4_096]?;
-    let too_long = vec![in alloc; b'b'; 4_097]?;
-    // each line's number, its bytes, and whether they are kept
-    let table: [(u64, &[u8], bool); 6] = [
-        (1, b"first\r", true),
-        (2, b"", true),
-        (3, &longest, true),
-        (4, &too_long, false),
-        (5, b"", true),
-        (6, b"last", true),
-    ];
-    let mut text = Vec::new(alloc);
-    let mut expected = Vec::new(alloc);
-    for (number, part, is_kept) in table {
-        if number > 1 {
-            text.push(b'\n')?;
-        }
-        text.extend_from_slice(part)?;
-        let kept = if is_kept {
-            Some(Vec::from_slice(alloc, part)?)
-        } else {
-            None
-        };
-        expected.push((number, kept))?;
-    }
-    // the last line has no line feed, then one, and then a blank line follows
-    for size in [1, 2, 3, 7, 20_000] {
-        assert_eq!(rt; lines_by(alloc, &text, size)?, expected);
-    }
+    let mut text = six_lines(alloc)?;
+    let mut wanted = longest_between(alloc, b"1 first\r\n2 \n3 ", b"\n4 too long\n5 \n6 last\n")?;
+    gives_lines(&rt, alloc, &text, &wanted)?;
     text.push(b'\n')?;
-    for size in [1, 2, 3, 7, 20_000] {
-        assert_eq!(rt; lines_by(alloc, &text, size)?, expected);
-    }
+    gives_lines(&rt, alloc, &text, &wanted)?;
     text.push(b'\n')?;
-    expected.push((7, Some(Vec::new(alloc))))?;
-    for size in [1, 2, 3, 7, 20_000] {
-        assert_eq!(rt; lines_by(alloc, &text, size)?, expected);
-    }
-    assert_eq!(rt; lines_by(alloc, b"", 1)?, Vec::new(alloc));
+    wanted.extend_from_slice(b"7 \n")?;
+    gives_lines(&rt, alloc, &text, &wanted)?;
+    gives_lines(&rt, alloc, b"", b"")?;
     Ok(())
 }

@@ -21,3 +21,5 @@ mod runs;
 mod sessions;
 #[cfg(test)]
 mod soaks;
+#[cfg(test)]
+mod wanted;

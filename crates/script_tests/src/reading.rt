@@ -1,11 +1,10 @@
 //! Dumps that are read by the word `read`.
-ghost use Rattle.std.specs.Prelude.{◌≤◌};
-
-use crate::call::call;
+use crate::call::{Called, Request, call, gives};
 use crate::runs::CUTTINGS;
-use ah_outside::{MemorySink, MemorySource};
+use crate::wanted::{counts, ends, holds};
 use artheap_top::Status;
 use std::alloc::{AllocError, Global};
+use std::process::Abort;
 use std::test::Fail;
 
 /// A record that is passed over, and a segment with an array without its numbers.
@@ -21,42 +20,27 @@ const DUMP: [u8; 69] = [
 const LISTING: &[u8] =
     b"JAVA PROFILE 1.0.3 id 4 time 0\nother 0x0e length 6\nsegment 0x1c length 14\nnodata 0x80000000 stack 0 count 12288 type 8\nrecords 2 classes 0 objects 1 roots 0\n";
 
-/// What a call left.
-#[derive(Drop)]
-struct Told {
-    status: Status,
-    put: Vec<u8>,
-    left: usize,
-    live: usize,
-}
-
-/// Reads a text that comes in pieces, with these calls of the source and of the sink failing.
-fn read_with(
-    alloc: Global,
-    text: &[u8],
-    piece: usize,
-    takes: &[u64],
-    puts: &[u64],
-) -> Result<Told, AllocError>
-    requires { 1 ≤ piece }
-{
-    let mut source = MemorySource::new(alloc, text, piece, takes)?;
-    let mut sink = MemorySink::new(alloc, 1_000, puts)?;
-    let called = call(alloc, &["read"], &mut source, &mut sink)?;
-    Ok(Told {
-        status: called.status,
-        put: Vec::from_slice(alloc, sink.bytes())?,
-        left: source.left().len(),
-        live: called.machine.live_count(),
-    })
+/// A reading of a text that comes in pieces of 7 bytes, with these calls of the source and of the sink failing.
+fn reading<'a>(text: &'a [u8], takes: &'a [u64], puts: &'a [u64]) -> Request<'a> {
+    Request {
+        words: &["read"],
+        script: text,
+        piece: 7,
+        takes,
+        puts,
+    }
 }
 
 #[test]
 fn dumps_are_listed(rt: HostRuntime) -> Result<(), Fail> {
     for piece in CUTTINGS {
-        let told = read_with(rt.alloc(), &DUMP, piece, &[], &[])?;
-        assert_eq!(rt; told.put.as_slice(), LISTING);
-        assert_eq!(rt; (told.status, told.left, told.live), (Status::Ok, 0, 0));
+        let asked = Request {
+            piece,
+            ..reading(&DUMP, &[], &[])
+        };
+        let called = gives(&rt, rt.alloc(), &asked, LISTING, Status::Ok)?;
+        counts(&rt, called.left, 0);
+        counts(&rt, called.machine.live_count(), 0);
     }
     Ok(())
 }
@@ -83,10 +67,14 @@ fn told_of(bytes: usize) -> (Status, &'static [u8]) {
 #[test]
 fn each_front_of_a_dump_is_told(rt: HostRuntime) -> Result<(), Fail> {
     for bytes in 0..DUMP.len() {
-        let told = read_with(rt.alloc(), &DUMP[..bytes], 7, &[], &[])?;
         let (status, text) = told_of(bytes);
-        assert_eq!(rt; told.put.as_slice(), text);
-        assert_eq!(rt; told.status, status);
+        gives(
+            &rt,
+            rt.alloc(),
+            &reading(&DUMP[..bytes], &[], &[]),
+            text,
+            status,
+        )?;
     }
     Ok(())
 }
@@ -95,39 +83,59 @@ fn each_front_of_a_dump_is_told(rt: HostRuntime) -> Result<(), Fail> {
 fn each_take_may_fail(rt: HostRuntime) -> Result<(), Fail> {
     // ten pieces of 7 bytes, and the end
     for take in 1..=11 {
-        let told = read_with(rt.alloc(), &DUMP, 7, &[take], &[])?;
-        assert_eq!(rt; told.status, Status::ReadFault);
-        assert_eq!(rt; told.put.len(), 0);
+        gives(
+            &rt,
+            rt.alloc(),
+            &reading(&DUMP, &[take], &[]),
+            b"",
+            Status::ReadFault,
+        )?;
     }
-    assert_eq!(rt;
-        read_with(rt.alloc(), &DUMP, 7, &[12], &[])?.status,
-        Status::Ok
-    );
+    gives(
+        &rt,
+        rt.alloc(),
+        &reading(&DUMP, &[12], &[]),
+        LISTING,
+        Status::Ok,
+    )?;
     Ok(())
+}
+
+/// Reads the dump with a put failing. Tells whether the listing was put whole, since no such put came.
+fn put_fails(rt: &impl Abort, alloc: Global, put: u64) -> Result<bool, AllocError> {
+    let called: Called = call(alloc, &reading(&DUMP, &[], &[put]))?;
+    holds(rt, LISTING.starts_with(called.report.as_slice()));
+    let whole = called.report.len() == LISTING.len();
+    ends(
+        rt,
+        called.status,
+        if whole {
+            Status::Ok
+        } else {
+            Status::WriteFault
+        },
+    );
+    Ok(whole)
 }
 
 #[test]
 fn each_put_may_fail(rt: HostRuntime) -> Result<(), Fail> {
     for put in 1..=100 {
-        let told = read_with(rt.alloc(), &DUMP, 7, &[], &[put])?;
-        assert!(rt; LISTING.starts_with(told.put.as_slice()));
-        if told.status == Status::Ok {
-            assert_eq!(rt; told.put.len(), LISTING.len());
+        if put_fails(&rt, rt.alloc(), put)? {
             return Ok(());
         }
-        assert_eq!(rt; told.status, Status::WriteFault);
-        assert!(rt; told.put.len() < LISTING.len());
     }
-    assert!(rt; false);
+    holds(&rt, false);
     Ok(())
 }
 
 #[test]
 fn no_word_follows(rt: HostRuntime) -> Result<(), Fail> {
-    let mut source = MemorySource::new(rt.alloc(), &DUMP, 7, &[1])?;
-    let mut sink = MemorySink::new(rt.alloc(), 1_000, &[1])?;
-    let called = call(rt.alloc(), &["read", "read"], &mut source, &mut sink)?;
-    assert_eq!(rt; called.status, Status::Usage);
-    assert_eq!(rt; (source.left().len(), sink.bytes().len()), (DUMP.len(), 0));
+    let asked = Request {
+        words: &["read", "read"],
+        ..reading(&DUMP, &[1], &[1])
+    };
+    let called = gives(&rt, rt.alloc(), &asked, b"", Status::Usage)?;
+    counts(&rt, called.left, DUMP.len());
     Ok(())
 }

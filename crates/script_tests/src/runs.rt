@@ -1,13 +1,13 @@
 //! Whole runs: reports, statuses, and what a machine counts after them.
 ghost use Rattle.heap_world.specs.Formed.{HasFewFields};
 
-use crate::call::call;
+use crate::call::{Request, call, gives};
 use crate::rows::ROWS;
-use ah_outside::{MemorySink, MemorySource};
+use crate::wanted::{counts, holds, sums, tells};
 use artheap_top::{Machine, Status};
 use class_layout::Name;
 use heap_world::{Command, Refusal, Reply, Verb};
-use std::alloc::{AllocError, Global};
+use std::process::Abort;
 use std::test::Fail;
 
 const THREE_LINES: &[u8] =
@@ -18,125 +18,191 @@ pub(crate) const CUTTINGS: [usize; 5] = [1, 2, 3, 7, 4_096];
 
 #[test]
 fn scripts_give_their_reports(rt: HostRuntime) -> Result<(), Fail> {
-    let alloc = rt.alloc();
     for row in &ROWS {
         for piece in CUTTINGS {
-            let mut source = MemorySource::new(alloc, row.script, piece, &[])?;
-            let mut sink = MemorySink::new(alloc, 10_000, &[])?;
-            let words = ["run", "--regions", row.regions];
-            assert_eq!(rt;
-                call(alloc, &words, &mut source, &mut sink)?.status,
-                row.status
-            );
-            assert_eq!(rt; sink.bytes(), row.report);
-            assert_eq!(rt; source.left().len(), 0);
+            let made = Request {
+                words: &["run", "--regions", row.regions],
+                script: row.script,
+                piece,
+                takes: &[],
+                puts: &[],
+            };
+            let called = gives(&rt, rt.alloc(), &made, row.report, row.status)?;
+            counts(&rt, called.left, 0);
         }
     }
     Ok(())
 }
 
+/// A call, and how it ends.
+struct Case {
+    words: &'static [&'static str],
+    script: &'static [u8],
+    takes: &'static [u64],
+    puts: &'static [u64],
+    report: &'static [u8],
+    status: Status,
+}
+
+const CASES: [Case; 15] = [
+    Case {
+        words: &["run"],
+        script: b"",
+        takes: &[],
+        puts: &[],
+        report: b"",
+        status: Status::Ok,
+    },
+    Case {
+        words: &["run"],
+        script: THREE_LINES,
+        takes: &[1],
+        puts: &[],
+        report: b"",
+        status: Status::ReadFault,
+    },
+    Case {
+        words: &["run"],
+        script: THREE_LINES,
+        takes: &[2],
+        puts: &[],
+        report: b"1: class 2\n2: #1\n3: 0\n",
+        status: Status::ReadFault,
+    },
+    Case {
+        words: &["run"],
+        script: THREE_LINES,
+        takes: &[],
+        puts: &[2],
+        report: b"1: class 2\n",
+        status: Status::WriteFault,
+    },
+    Case {
+        words: &["run", "--regions", "512"],
+        script: b"",
+        takes: &[],
+        puts: &[],
+        report: b"",
+        status: Status::Ok,
+    },
+    Case {
+        words: &["run", "--regions", "0"],
+        script: b"",
+        takes: &[1],
+        puts: &[],
+        report: b"",
+        status: Status::Usage,
+    },
+    Case {
+        words: &["run", "--regions", "513"],
+        script: b"",
+        takes: &[1],
+        puts: &[],
+        report: b"",
+        status: Status::Usage,
+    },
+    Case {
+        words: &["run", "--regions", "+1"],
+        script: b"",
+        takes: &[1],
+        puts: &[],
+        report: b"",
+        status: Status::Usage,
+    },
+    Case {
+        words: &["run", "--regions", "01"],
+        script: b"",
+        takes: &[1],
+        puts: &[],
+        report: b"",
+        status: Status::Usage,
+    },
+    Case {
+        words: &["run", "--regions", "1", "--regions", "1"],
+        script: b"",
+        takes: &[1],
+        puts: &[],
+        report: b"",
+        status: Status::Usage,
+    },
+    Case {
+        words: &["walk"],
+        script: THREE_LINES,
+        takes: &[1],
+        puts: &[1],
+        report: b"",
+        status: Status::Usage,
+    },
+    Case {
+        words: &["soak", "1"],
+        script: b"",
+        takes: &[1],
+        puts: &[1],
+        report: b"",
+        status: Status::Usage,
+    },
+    Case {
+        words: &["soak", "2147483648", "1"],
+        script: b"",
+        takes: &[1],
+        puts: &[1],
+        report: b"",
+        status: Status::Usage,
+    },
+    Case {
+        words: &["soak", "1", "1000001"],
+        script: b"",
+        takes: &[1],
+        puts: &[1],
+        report: b"",
+        status: Status::Usage,
+    },
+    Case {
+        words: &[],
+        script: THREE_LINES,
+        takes: &[1],
+        puts: &[1],
+        report: b"",
+        status: Status::Usage,
+    },
+];
+
 #[test]
 fn words_faults_and_limits_have_their_status(rt: HostRuntime) -> Result<(), Fail> {
+    for case in &CASES {
+        let made = Request {
+            words: case.words,
+            script: case.script,
+            piece: 100_000,
+            takes: case.takes,
+            puts: case.puts,
+        };
+        let _ = gives(&rt, rt.alloc(), &made, case.report, case.status)?;
+    }
+    Ok(())
+}
+
+/// A run of a script, in one piece and without a fault.
+fn run(script: &[u8]) -> Request<'_> {
+    Request {
+        words: &["run"],
+        script,
+        piece: 100_000,
+        takes: &[],
+        puts: &[],
+    }
+}
+
+#[test]
+fn one_byte_more_than_a_line_has_is_too_long(rt: HostRuntime) -> Result<(), Fail> {
     let alloc = rt.alloc();
-    let mut long = vec![in alloc; b'#'; 4_096]?;
-    long.push(b'\n')?;
+    let mut script = vec![in alloc; b'#'; 4_096]?;
+    script.push(b'\n')?;
     for _ in 0..4_097 {
-        long.push(b'#')?;
+        script.push(b'#')?;
     }
-    let cases: [(&[&str], &[u8], &[u64], &[u64], &[u8], Status); 16] = [
-        (&["run"], b"", &[], &[], b"", Status::Ok),
-        (&["run"], THREE_LINES, &[1], &[], b"", Status::ReadFault),
-        (
-            &["run"],
-            THREE_LINES,
-            &[2],
-            &[],
-            b"1: class 2\n2: #1\n3: 0\n",
-            Status::ReadFault,
-        ),
-        (
-            &["run"],
-            THREE_LINES,
-            &[],
-            &[2],
-            b"1: class 2\n",
-            Status::WriteFault,
-        ),
-        (
-            &["run"],
-            long.as_slice(),
-            &[],
-            &[],
-            b"2: E2 line too long\n",
-            Status::Refused,
-        ),
-        (&["run", "--regions", "512"], b"", &[], &[], b"", Status::Ok),
-        (
-            &["run", "--regions", "0"],
-            b"",
-            &[1],
-            &[],
-            b"",
-            Status::Usage,
-        ),
-        (
-            &["run", "--regions", "513"],
-            b"",
-            &[1],
-            &[],
-            b"",
-            Status::Usage,
-        ),
-        (
-            &["run", "--regions", "+1"],
-            b"",
-            &[1],
-            &[],
-            b"",
-            Status::Usage,
-        ),
-        (
-            &["run", "--regions", "01"],
-            b"",
-            &[1],
-            &[],
-            b"",
-            Status::Usage,
-        ),
-        (
-            &["run", "--regions", "1", "--regions", "1"],
-            b"",
-            &[1],
-            &[],
-            b"",
-            Status::Usage,
-        ),
-        (&["walk"], THREE_LINES, &[1], &[1], b"", Status::Usage),
-        (&["soak", "1"], b"", &[1], &[1], b"", Status::Usage),
-        (
-            &["soak", "2147483648", "1"],
-            b"",
-            &[1],
-            &[1],
-            b"",
-            Status::Usage,
-        ),
-        (
-            &["soak", "1", "1000001"],
-            b"",
-            &[1],
-            &[1],
-            b"",
-            Status::Usage,
-        ),
-        (&[], THREE_LINES, &[1], &[1], b"", Status::Usage),
-    ];
-    for (words, script, takes, puts, report, status) in cases {
-        let mut source = MemorySource::new(alloc, script, 100_000, takes)?;
-        let mut sink = MemorySink::new(alloc, 1000, puts)?;
-        assert_eq!(rt; call(alloc, words, &mut source, &mut sink)?.status, status);
-        assert_eq!(rt; sink.bytes(), report);
-    }
+    let report = b"2: E2 line too long\n";
+    let _ = gives(&rt, alloc, &run(&script), report, Status::Refused)?;
     Ok(())
 }
 
@@ -178,31 +244,64 @@ const FORKED: &[u8] =
 const PARENT_EXITED: &[u8] =
     b"zygote class P java.lang.Object x:int\nzygote new a P\nzygote seal\nzygote new b P\nzygote fork app\napp new c P\napp set a x 7\nzygote new d P\nzygote new e P\nzygote exit\n";
 
-/// The machine after a script.
-fn machine_after(alloc: Global, script: &[u8]) -> Result<Machine, AllocError> {
-    let mut source = MemorySource::new(alloc, script, 100_000, &[])?;
-    let mut sink = MemorySink::new(alloc, 10_000, &[])?;
-    Ok(call(alloc, &["run"], &mut source, &mut sink)?.machine)
+/// What counts a machine: its live processes, the objects of `zygote` and of `app`, all objects, and the frames.
+struct Counts {
+    script: &'static [u8],
+    live: usize,
+    in_zygote: Option<usize>,
+    in_app: Option<usize>,
+    objects: u128,
+    frames: u64,
+}
+
+const COUNTS: [Counts; 3] = [
+    Counts {
+        script: b"",
+        live: 1,
+        in_zygote: Some(0),
+        in_app: None,
+        objects: 0,
+        frames: 0,
+    },
+    Counts {
+        script: FORKED,
+        live: 2,
+        in_zygote: Some(4),
+        in_app: Some(3),
+        objects: 7,
+        frames: 5,
+    },
+    Counts {
+        script: PARENT_EXITED,
+        live: 1,
+        in_zygote: None,
+        in_app: Some(3),
+        objects: 3,
+        frames: 3,
+    },
+];
+
+/// A process has so many objects, or doesn't live.
+fn has_objects(rt: &impl Abort, machine: &Machine, process: &Name, wanted: Option<usize>) {
+    holds(rt, machine.is_live(process) == wanted.is_some());
+    tells(rt, machine.object_count(process), wanted);
 }
 
 #[test]
 fn machines_count(rt: HostRuntime) -> Result<(), Fail> {
     let zygote = Name::of(b"zygote").unwrap();
     let app = Name::of(b"app").unwrap();
-    // the live processes, the objects of `zygote` and `app`, all objects, and the frames
-    let cases: [(&[u8], usize, Option<usize>, Option<usize>, u128, u64); 3] = [
-        (b"", 1, Some(0), None, 0, 0),
-        (FORKED, 2, Some(4), Some(3), 7, 5),
-        (PARENT_EXITED, 1, None, Some(3), 3, 3),
-    ];
-    for (script, live, in_zygote, in_app, objects, frames) in cases {
-        let machine = machine_after(rt.alloc(), script)?;
-        assert_eq!(rt; machine.live_count(), live);
-        assert_eq!(rt; machine.is_live(&zygote), in_zygote.is_some());
-        assert_eq!(rt; machine.object_count(&zygote), in_zygote);
-        assert_eq!(rt; machine.object_count(&app), in_app);
-        assert_eq!(rt; machine.objects(), objects);
-        assert_eq!(rt; machine.frames_used()?, frames);
+    for row in &COUNTS {
+        let machine = call(rt.alloc(), &run(row.script))?.machine;
+        counts(&rt, machine.live_count(), row.live);
+        has_objects(&rt, &machine, &zygote, row.in_zygote);
+        has_objects(&rt, &machine, &app, row.in_app);
+        sums(&rt, machine.objects(), row.objects);
+        sums(
+            &rt,
+            u128::from(machine.frames_used()?),
+            u128::from(row.frames),
+        );
     }
     Ok(())
 }

@@ -1,7 +1,8 @@
 //! An ordinary session, and an input that is too long.
-use crate::call::call;
+use crate::call::{Request, call, call_over, gives};
 use crate::runs::CUTTINGS;
-use ah_outside::{Failed, MemorySink, MemorySource, Source};
+use crate::wanted::{ends, has, holds};
+use ah_outside::{Failed, MemorySink, Source};
 use artheap_top::Status;
 use std::alloc::{AllocError, Global};
 use std::marker::Model;
@@ -73,15 +74,16 @@ fn whole_session(alloc: Global) -> Result<Session, AllocError> {
 fn a_session_gives_its_report_in_any_pieces(rt: HostRuntime) -> Result<(), Fail> {
     let alloc = rt.alloc();
     let session = whole_session(alloc)?;
-    assert_eq!(rt; session.lines, 3_538);
+    holds(&rt, session.lines == 3_538);
     for piece in CUTTINGS {
-        let mut source = MemorySource::new(alloc, session.script.as_bytes(), piece, &[])?;
-        let mut sink = MemorySink::new(alloc, 100_000, &[])?;
-        assert_eq!(rt;
-            call(alloc, &["run"], &mut source, &mut sink)?.status,
-            Status::Ok
-        );
-        assert_eq!(rt; sink.bytes(), session.report.as_bytes());
+        let made = Request {
+            words: &["run"],
+            script: session.script.as_bytes(),
+            piece,
+            takes: &[],
+            puts: &[],
+        };
+        let _ = gives(&rt, alloc, &made, session.report.as_bytes(), Status::Ok)?;
     }
     Ok(())
 }
@@ -118,32 +120,26 @@ fn one_byte_is_too_many(rt: HostRuntime) -> Result<(), Fail> {
     let alloc = rt.alloc();
     let mut source = Remarks { left: 268_435_457 };
     let mut sink = MemorySink::new(alloc, 1_000, &[])?;
-    let status = call(alloc, &["run"], &mut source, &mut sink)?.status;
-    assert_eq!(rt; status, Status::TooLong);
-    assert_eq!(rt; sink.bytes(), b"".as_slice());
+    let (status, _) = call_over(alloc, &["run"], &mut source, &mut sink)?;
+    ends(&rt, status, Status::TooLong);
+    has(&rt, sink.bytes(), b"");
     Ok(())
-}
-
-/// What a soak puts, and its status.
-fn soak(alloc: Global, words: &[&str]) -> Result<(Vec<u8>, Status), AllocError> {
-    let mut source = MemorySource::new(alloc, b"zygote gc\n", 7, &[])?;
-    let mut sink = MemorySink::new(alloc, 1_000, &[])?;
-    let status = call(alloc, words, &mut source, &mut sink)?.status;
-    Ok((Vec::from_slice(alloc, sink.bytes())?, status))
 }
 
 #[test]
 fn a_long_soak_puts_the_same_twice(rt: HostRuntime) -> Result<(), Fail> {
-    let alloc = rt.alloc();
-    let words = ["soak", "7", "100000", "--regions", "2"];
-    let (first, status) = soak(alloc, &words)?;
-    let (second, _) = soak(alloc, &words)?;
-    assert_eq!(rt; status, Status::Refused);
-    assert!(rt;
-        first
-            .as_slice()
-            .starts_with(b"soak 7 100000\nlines 100011\nrefused ")
+    let made = Request {
+        words: &["soak", "7", "100000", "--regions", "2"],
+        script: b"zygote gc\n",
+        piece: 7,
+        takes: &[],
+        puts: &[],
+    };
+    let first = call(rt.alloc(), &made)?.report;
+    holds(
+        &rt,
+        first.starts_with(b"soak 7 100000\nlines 100011\nrefused "),
     );
-    assert_eq!(rt; first.as_slice(), second.as_slice());
+    let _ = gives(&rt, rt.alloc(), &made, &first, Status::Refused)?;
     Ok(())
 }

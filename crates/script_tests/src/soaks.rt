@@ -1,6 +1,5 @@
 //! Soaks with their summaries.
-use crate::call::call;
-use ah_outside::{MemorySink, MemorySource};
+use crate::call::{Request, gives};
 use artheap_top::Status;
 use std::test::Fail;
 
@@ -43,15 +42,15 @@ const ROWS: [Row; 4] = [
 
 #[test]
 fn soaks_give_their_summaries(rt: HostRuntime) -> Result<(), Fail> {
-    let alloc = rt.alloc();
     for row in &ROWS {
-        let mut source = MemorySource::new(alloc, b"", 1, &[1])?;
-        let mut sink = MemorySink::new(alloc, 1000, row.fails)?;
-        assert_eq!(rt;
-            call(alloc, row.words, &mut source, &mut sink)?.status,
-            row.status
-        );
-        assert_eq!(rt; sink.bytes(), row.summary);
+        let made = Request {
+            words: row.words,
+            script: b"",
+            piece: 1,
+            takes: &[1],
+            puts: row.fails,
+        };
+        let _ = gives(&rt, rt.alloc(), &made, row.summary, row.status)?;
     }
     Ok(())
 }

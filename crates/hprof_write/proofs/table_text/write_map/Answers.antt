@@ -7,16 +7,15 @@ use Rattle.std.proofs.lemmas.List.{take_all}
 use Rattle.ah_outside.specs.Outside.{Appended}
 use Rattle.heap_graph.specs.Graph.{Graph}
 use Rattle.hprof_write.specs.Outcomes.{AppendedBut, AppendedPrefix}
-use Rattle.hprof_write.specs.TableText.{table_line}
 use Rattle.hprof_write.proofs.Appends.{AppendedBut-none, AppendedBut-stopped}
 use Rattle.hprof_write.proofs.TableLines.{lines, on_err-always, walk-more, line-waits, lines-prefix, IsStep, IsWalked, IsWalked-begun, IsWalked-within}
 use Rattle.hprof_write.proofs.table_text.write_map.Goals as goal
 
 -- the step of a walk, over what the walk began with
-step-seen : (graph graph' : Graph) (table table' : ℕ → ℕ) (k given before mid now : ℕ) (seen : Seen) → graph' ≡ graph → table' ≡ table → given ≡ k
+step-seen : {graph graph' : Graph} {table table' : ℕ → ℕ} {k given before mid now : ℕ} {seen : Seen} → graph' ≡ graph → table' ≡ table → given ≡ k
     → IsSomeAnd (slice_get graph'.objects given) (λ o. seen ≡ seen_of table' o) → RoseBy (step_reads (slice_get graph'.objects given)) mid now
     → IsWalked graph.objects k before mid → IsStep table graph.objects k before now seen
-step-seen graph graph' table table' k given before mid now seen eg et ek is r h =
+step-seen {graph} {graph'} {table} {table'} {k} {given} {before} {mid} {now} {seen} eg et ek is r h =
     let P : Graph → (ℕ → ℕ) → ℕ → Type 0 = λ x t n. IsSomeAnd (slice_get x.objects n) (λ o. seen ≡ seen_of t o) in
     let is-k = subst (P graph' table') ek is in
     let is-t = subst (λ t. P graph' t k) et is-k in
@@ -49,12 +48,8 @@ loop-k-preserved g c =
     let start = g.F.Shelf.shelved c.args.shelf.now in
     let graph = g.V.HeapView.graph first in
     let table = g.V.HeapView.table first in
-    let step = step-seen graph (g.V.HeapView.graph view) table (g.V.HeapView.table view) c.loop-k._k (g.V.HeapView.given view)
-    (g.V.HeapView.read_count first) (g.V.HeapView.read_count view) (g.V.HeapView.read_count next) c.next_seen-seen.result
-    (g.met.V.HeapView.same_graph first view inv.same) (g.met.V.HeapView.same_table first view inv.same) inv.given
-    c.next_seen-seen.ensures.seen c.next_seen-seen.ensures.reads inv.reads in
-    let waits = line-waits table graph.objects c.loop-k._k (table_line c.next_seen-seen.result.number c.next_seen-seen.result.at.0)
-    c.loop-k.waiting.items c.put_line.new.out.items start (g.F.Shelf.shelved c.loop-k.shelf) step.line c.in_ok-put_line.ensures inv.appended in
+    let step = step-seen (g.met.V.HeapView.same_graph first view inv.same) (g.met.V.HeapView.same_table first view inv.same) inv.given c.next_seen-seen.ensures.seen c.next_seen-seen.ensures.reads inv.reads in
+    let waits = line-waits _ _ _ _ _ _ _ _ step.line c.in_ok-put_line.ensures inv.appended in
     let put = c.in_ok-put_piece.ensures.ok start (lines table (take (suc c.loop-k._k) graph.objects)) waits in
     let one : suc c.loop-k._k ≡ c.loop-k._k + 1 = sym (add-one c.loop-k._k) in
     record {
@@ -85,29 +80,20 @@ returns-in_err-put_line-clause-reads g c =
     let next = c.next_seen-seen.new.view in
     let inv = c.loop-k.invariant in
     let graph = g.V.HeapView.graph first in
-    let table = g.V.HeapView.table first in
-    let step = step-seen graph (g.V.HeapView.graph view) table (g.V.HeapView.table view) c.loop-k._k (g.V.HeapView.given view)
-    (g.V.HeapView.read_count first) (g.V.HeapView.read_count view) (g.V.HeapView.read_count next) c.next_seen-seen.result
-    (g.met.V.HeapView.same_graph first view inv.same) (g.met.V.HeapView.same_table first view inv.same) inv.given
-    c.next_seen-seen.ensures.seen c.next_seen-seen.ensures.reads inv.reads in
+    let step = step-seen (g.met.V.HeapView.same_graph first view inv.same) (g.met.V.HeapView.same_table first view inv.same) inv.given c.next_seen-seen.ensures.seen c.next_seen-seen.ensures.reads inv.reads in
     IsWalked-within graph.objects (suc c.loop-k._k) (g.V.HeapView.read_count first) (g.V.HeapView.read_count next) step.walked
 
 pub returns-in_err-put_piece-clause-failed : goal.returns-in_err-put_piece-clause-failed
 returns-in_err-put_piece-clause-failed g c =
     let first = c.args.view.now in
     let view = c.loop-k.view in
-    let next = c.next_seen-seen.new.view in
     let inv = c.loop-k.invariant in
     let start = g.F.Shelf.shelved c.args.shelf.now in
     let now = g.F.Shelf.shelved c.put_piece.new.shelf in
     let graph = g.V.HeapView.graph first in
     let table = g.V.HeapView.table first in
-    let step = step-seen graph (g.V.HeapView.graph view) table (g.V.HeapView.table view) c.loop-k._k (g.V.HeapView.given view)
-    (g.V.HeapView.read_count first) (g.V.HeapView.read_count view) (g.V.HeapView.read_count next) c.next_seen-seen.result
-    (g.met.V.HeapView.same_graph first view inv.same) (g.met.V.HeapView.same_table first view inv.same) inv.given
-    c.next_seen-seen.ensures.seen c.next_seen-seen.ensures.reads inv.reads in
-    let waits = line-waits table graph.objects c.loop-k._k (table_line c.next_seen-seen.result.number c.next_seen-seen.result.at.0)
-    c.loop-k.waiting.items c.put_line.new.out.items start (g.F.Shelf.shelved c.loop-k.shelf) step.line c.in_ok-put_line.ensures inv.appended in
+    let step = step-seen (g.met.V.HeapView.same_graph first view inv.same) (g.met.V.HeapView.same_table first view inv.same) inv.given c.next_seen-seen.ensures.seen c.next_seen-seen.ensures.reads inv.reads in
+    let waits = line-waits _ _ _ _ _ _ _ _ step.line c.in_ok-put_line.ensures inv.appended in
     on_err-always (AppendedPrefix start (lines table graph.objects) now) c.from_residual-in_err-put_piece.result
     (lines-prefix table graph.objects (suc c.loop-k._k) start now
     (c.in_err-put_piece.ensures.failed start (lines table (take (suc c.loop-k._k) graph.objects)) waits))
@@ -119,11 +105,7 @@ returns-in_err-put_piece-clause-reads g c =
     let next = c.next_seen-seen.new.view in
     let inv = c.loop-k.invariant in
     let graph = g.V.HeapView.graph first in
-    let table = g.V.HeapView.table first in
-    let step = step-seen graph (g.V.HeapView.graph view) table (g.V.HeapView.table view) c.loop-k._k (g.V.HeapView.given view)
-    (g.V.HeapView.read_count first) (g.V.HeapView.read_count view) (g.V.HeapView.read_count next) c.next_seen-seen.result
-    (g.met.V.HeapView.same_graph first view inv.same) (g.met.V.HeapView.same_table first view inv.same) inv.given
-    c.next_seen-seen.ensures.seen c.next_seen-seen.ensures.reads inv.reads in
+    let step = step-seen (g.met.V.HeapView.same_graph first view inv.same) (g.met.V.HeapView.same_table first view inv.same) inv.given c.next_seen-seen.ensures.seen c.next_seen-seen.ensures.reads inv.reads in
     IsWalked-within graph.objects (suc c.loop-k._k) (g.V.HeapView.read_count first) (g.V.HeapView.read_count next) step.walked
 
 pub returns-in_err-put_rest-clause-failed : goal.returns-in_err-put_rest-clause-failed
