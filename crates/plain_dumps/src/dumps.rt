@@ -1,4 +1,4 @@
-ghost use Rattle.std.specs.Prelude.{◌≡◌, ◌≤◌, ℕ, List, None, Some, Ok, true, IfOk, IfSome, OnOk, OnErr};
+ghost use Rattle.std.specs.Prelude.{◌≡◌, ◌≤◌, ℕ, List, None, Some, Ok, true, IfOk, OnOk, OnErr};
 ghost use Rattle.ah_outside.specs.Outside.{Appended, FaultRose};
 ghost use Rattle.heap_graph.specs.Graph.{Graph};
 ghost use Rattle.heap_graph.specs.Table.{Fits};
@@ -13,7 +13,6 @@ ghost use Rattle.plain_view.specs.Viewed.{address_at};
 ghost use Rattle.plain_dumps.specs.Addresses.{addresses};
 
 use ah_outside::Shelf;
-use address_table::tables_fit;
 use class_layout::Name;
 use cow_pages::Addr;
 use hprof_write::DumpError;
@@ -23,7 +22,6 @@ use std::alloc::{AllocError, Global};
 
 /// Where an object of a live process stands. `None` comes exactly where no live process has the name, or no object of it
 /// the number. It takes memory.
-#[tactic(auto, unfolding(crate::specs::Addresses::addresses))]
 pub fn address(
     alloc: Global,
     machine: &Machine,
@@ -32,7 +30,6 @@ pub fn address(
 ) -> Result<Option<Addr>, AllocError>
     ensures none { (w : World) → StandsFor machine.now w → graph_of w process.now ≡ None → IfOk result (λ at. at ≡ None) }
     ensures found { (w : World) (g : Graph) → StandsFor machine.now w → graph_of w process.now ≡ Some g → IfOk result (λ at. at ≡ address_at g number) }
-    ensures address { IfOk result (λ at. IfSome at (λ a. a.0 ≡ addresses machine.now process.now number)) }
 {
     let Some(graph) = machine.graph(process) else {
         return Ok(None);
@@ -43,7 +40,6 @@ pub fn address(
 /// Appends the dump of a live process to the unfinished entry, with the time in milliseconds. After an error some first
 /// bytes of it may have been appended. Where no live process has the name, nothing is appended. The machine stands for
 /// the same worlds, and its objects stay where they are.
-#[tactic(auto, unfolding(crate::specs::Addresses::addresses))]
 pub fn write_dump<F: Shelf>(
     alloc: Global,
     machine: &mut Machine,
@@ -64,7 +60,6 @@ pub fn write_dump<F: Shelf>(
     ensures stands { (w : World) → StandsFor machine.old w → StandsFor machine.new w }
     ensures addresses { (name : List ℕ) → addresses machine.new name ≡ addresses machine.old name }
 {
-    tables_fit();
     let Some(graph) = machine.graph(process) else {
         return Ok(());
     };
@@ -75,7 +70,6 @@ pub fn write_dump<F: Shelf>(
 /// Appends the text of a live process's table of addresses to the unfinished entry. After an error some first bytes of it
 /// may have been appended. Where no live process has the name, nothing is appended. The machine stands for the same
 /// worlds, and its objects stay where they are.
-#[tactic(auto, unfolding(crate::specs::Addresses::addresses))]
 pub fn write_map<F: Shelf>(
     alloc: Global,
     machine: &mut Machine,
