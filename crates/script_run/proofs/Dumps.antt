@@ -34,9 +34,9 @@ pub AreDumped-more : (time : ℕ) (ds : List Dumping) (es : List Entry) (more : 
 AreDumped-more time [] es more fs a b = subst (λ (xs : List Entry). AreDumped time more (xs ++ fs)) (sym a) b
 AreDumped-more time (d ∷ ds) es more fs a b =
     let table = a.0 in
-    let rest = a.1.0 in
-    let e : es ++ fs ≡ dump_entries time d table ++ (rest ++ fs) = ap (λ (xs : List Entry). xs ++ fs) a.1.1.1.1 ∙ append_assoc (dump_entries time d table) rest fs in
-    (table, rest ++ fs, a.1.1.0, AreDumped-more time ds rest more fs a.1.1.1.0 b, e)
+    let rest = a.1 in
+    let e : es ++ fs ≡ dump_entries time d table ++ (rest ++ fs) = ap (λ (xs : List Entry). xs ++ fs) a.4 ∙ append_assoc (dump_entries time d table) rest fs in
+    (table, rest ++ fs, a.2, AreDumped-more time ds rest more fs a.3 b, e)
 
 -- no dump
 pub shelved-none : (time : ℕ) (old : Shelved) → old.unfinished ≡ false → HasShelved time [] old old
@@ -65,7 +65,7 @@ both_entries time d table old mid new fits a b = record {
 pub first_part : (time : ℕ) (d : Dumping) (table : ℕ → ℕ) (old new : Shelved) → Fits table d.graph
     → HasEntryPart (dump_entry time d table) old new → HasShelvedPart time d old new
 first_part time d table old new fits (inl same) = record { table = table; fits = fits; entries = []; are = tt; told = same ∙ told-none old.entries }
-first_part time d table old new fits (inr part) = record { table = table; fits = fits; entries = part.0 ∷ []; are = part.1.0; told = part.1.1 }
+first_part time d table old new fits (inr part) = record { table = table; fits = fits; entries = part.0 ∷ []; are = part.1; told = part.2 }
 
 -- the second one
 pub second_part : (time : ℕ) (d : Dumping) (table : ℕ → ℕ) (old mid new : Shelved) → Fits table d.graph
@@ -76,8 +76,8 @@ second_part time d table old mid new fits a (inr part) = record {
   table = table;
   fits = fits;
   entries = dump_entry time d table ∷ part.0 ∷ [];
-  are = (refl, part.1.0);
-  told = told-more old.entries (dump_entry time d table ∷ []) mid.entries (part.0 ∷ []) new.entries a.told part.1.1;
+  are = (refl, part.1);
+  told = told-more old.entries (dump_entry time d table ∷ []) mid.entries (part.0 ∷ []) new.entries a.told part.2;
 }
 
 -- what a dump of a process asks

@@ -1,5 +1,5 @@
 -- How far a run of a script is.
-use Rattle.std.specs.Prelude.{◌≡◌, ◌≢◌, ℕ, ◌+◌, ◌<◌, ◌≤◌, Bool, false, List, [], ◌∷◌, ◌++◌, length, take}
+use Rattle.std.specs.Prelude.{◌≡◌, ◌≢◌, ◌⊎◌, ℕ, ◌+◌, ◌<◌, ◌≤◌, Bool, false, List, [], ◌∷◌, ◌++◌, length, take}
 use Rattle.ah_outside.specs.Outside.{FaultRose, Gave, Gained}
 use Rattle.model_numbers.specs.Numbers.{input_limit}
 use Rattle.plain_machine.specs.Worlds.{StandsFor}

@@ -1,5 +1,5 @@
 //! One line: its command, its dump, its reply, and the report's line.
-ghost use Rattle.std.specs.Prelude.{◌≡◌, ◌+◌, ◌-◌, ◌<◌, ◌≤◌, ◌^◌, ◌||◌, ◌++◌, ◌∷◌, [], ℕ, Bool, List, Ok, true, false, length, MatchResult, IfOk, OnOk, OnErr};
+ghost use Rattle.std.specs.Prelude.{◌≡◌, ◌≢◌, ◌+◌, ◌-◌, ◌<◌, ◌≤◌, ◌^◌, ◌||◌, ◌++◌, ◌∷◌, [], ℕ, Bool, List, Ok, true, false, length, MatchResult, IfOk, OnOk, OnErr};
 ghost use Rattle.ah_outside.specs.Outside.{FaultRose, Gained, GainedPrefix};
 ghost use Rattle.heap_world.specs.World.{World};
 ghost use Rattle.plain_machine.specs.Worlds.{StandsFor};
