@@ -6,7 +6,7 @@ use Rattle.heap_world.specs.Isolation.{NoNameTaken}
 use Rattle.plain_machine.specs.Worlds.{StandsFor}
 use Rattle.script_lang.specs.Parts.{lines, whole_lines}
 use Rattle.script_report.specs.Own.{AreAloneIn, told_by_script}
-use Rattle.script_report.specs.Report.{answers, answers_of, last_world, has_refusal, line_report, report_of, world_of}
+use Rattle.script_report.specs.Report.{answers, answers_of, dumps_of, has_refusal, last_world, line_dumps, line_report, report_of, world_of}
 use Rattle.job_status.specs.Inputs.{NothingLeft}
 use Rattle.job_status.specs.declared.status.Status.{Status}
 use Rattle.job_status.specs.declared.status.Status.TheVariants as status

@@ -27,7 +27,7 @@ returns-clause-done g c = λ s text old refused timed h.
     (λ e.
     let none = c.in_ok-refused.ensures.none (flag ∙ e) in
     let quiet : c.in_ok-refused.refused ≡ false = cc (none.0) in
-    rw (none.1, none.2, none.3)
+    rw (none.1, none.2, none.3, none.4)
     (subst (λ b. HasRun s (text ++ taken piece) fed (refused || b) old mid) (sym quiet)
     (fed_open s text piece c.args.feed.now fed refused old mid h e same c.feed-count.ensures.kept))))
 

@@ -26,7 +26,7 @@ returns-clause-done g c = λ s text old timed h.
     (λ e.
     let none = c.in_ok-last.ensures.none (flag ∙ e) in
     let quiet : last ≡ false = cc (none.0) in
-    rw (none.2, none.3)
+    rw (none.2, none.3, none.4)
     (subst (λ b. HasRunLines s (lines text) (run.refused || b) old mid) (sym quiet) (last_none s text run.feed run.refused old mid h e)))
 
 pub returns-in_err-last-clause-done : goal.returns-in_err-last-clause-done
