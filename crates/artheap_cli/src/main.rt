@@ -15,7 +15,7 @@ fn message(status: Status) -> Option<&'static str> {
     match status {
         Status::Ok | Status::Refused | Status::NotDump => None,
         Status::Usage => Some(
-            "usage: artheap run [--regions N] | read | soak START COUNT [--regions N]",
+            "usage: artheap run [--regions N] [--time T] | read | soak START COUNT [--regions N]",
         ),
         Status::ReadFault => Some("artheap: read fault"),
         Status::WriteFault => Some("artheap: write fault"),

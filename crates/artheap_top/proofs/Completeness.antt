@@ -6,22 +6,23 @@ use Rattle.job_status.specs.Inputs.{HasFewLeft}
 use Rattle.job_status.specs.declared.status.Status.{Status}
 use Rattle.job_status.specs.declared.status.Status.TheVariants as status
 use Rattle.script_run.specs.Ends.{EndedRun, EndsWell}
-use Rattle.script_run.specs.Outside.{Outside, Output}
-use Rattle.artheap_top.specs.Soaking.{EndedSoak}
+use Rattle.script_run.specs.Outside.{Outside, Setting}
+use Rattle.artheap_top.specs.Soaking.{EndedSoak, SoakOutput}
 
-pub run_completes : (budget : ℕ) (s : Status) (old new : Outside) → EndedRun budget s old new → HasFewLeft old.left
-    → (FaultRose old.read_faults new.read_faults → ⊥) → (FaultRose old.output.write_faults new.output.write_faults → ⊥) → EndsWell s
-run_completes budget status.Ok old new ended few reads puts = tt
-run_completes budget status.Refused old new ended few reads puts = tt
-run_completes budget status.Usage old new ended few reads puts = absurd ended
-run_completes budget status.ReadFault old new ended few reads puts = absurd (reads ended.1)
-run_completes budget status.WriteFault old new ended few reads puts = absurd (puts ended.1)
-run_completes budget status.OutOfMemory old new ended few reads puts = tt
-run_completes budget status.ShelfFault old new ended few reads puts = absurd ended
-run_completes budget status.NotDump old new ended few reads puts = absurd ended
-run_completes budget status.TooLong old new ended few reads puts = absurd (few_given old.left new.left ended.taken few ended.gave ended.too_many)
+pub run_completes : (s : Setting) (status : Status) (old new : Outside) → EndedRun s status old new → HasFewLeft old.left
+    → (FaultRose old.read_faults new.read_faults → ⊥) → (FaultRose old.output.write_faults new.output.write_faults → ⊥)
+    → (FaultRose old.output.shelf_faults new.output.shelf_faults → ⊥) → EndsWell status
+run_completes s status.Ok old new ended few reads puts shelvings = tt
+run_completes s status.Refused old new ended few reads puts shelvings = tt
+run_completes s status.Usage old new ended few reads puts shelvings = absurd ended
+run_completes s status.ReadFault old new ended few reads puts shelvings = absurd (reads ended.1)
+run_completes s status.WriteFault old new ended few reads puts shelvings = absurd (puts ended.1)
+run_completes s status.OutOfMemory old new ended few reads puts shelvings = tt
+run_completes s status.ShelfFault old new ended few reads puts shelvings = absurd (shelvings ended.1)
+run_completes s status.NotDump old new ended few reads puts shelvings = absurd ended
+run_completes s status.TooLong old new ended few reads puts shelvings = absurd (few_given old.left new.left ended.taken few ended.gave ended.too_many)
 
-pub soak_completes : (budget start count : ℕ) (s : Status) (old new : Output)
+pub soak_completes : (budget start count : ℕ) (s : Status) (old new : SoakOutput)
     → EndedSoak budget start count s old new → (FaultRose old.write_faults new.write_faults → ⊥) → EndsWell s
 soak_completes budget start count status.Ok old new ended puts = tt
 soak_completes budget start count status.Refused old new ended puts = tt

@@ -16,10 +16,9 @@ use Rattle.script_make.specs.declared.state.MakeState.{MakeState}
 use Rattle.job_status.specs.declared.status.Status.TheVariants.{WriteFault}
 use Rattle.artheap_top.specs.declared.summary.Summary.{Summary}
 use Rattle.artheap_top.specs.declared.tally.Tally.{Tally}
-use Rattle.script_run.specs.Outside.{Output}
 use Rattle.job_status.specs.Status.{refused_status}
 use Rattle.script_report.specs.Report.{answers_of, has_refusal, step_line, with_answer, world_of}
-use Rattle.artheap_top.specs.Soaking.{EndedSoak, HasSoaked, counted, no_lines, one_more_if}
+use Rattle.artheap_top.specs.Soaking.{EndedSoak, HasSoaked, counted, no_lines, one_more_if, SoakOutput}
 use Rattle.artheap_top.specs.Summary.{collection_count, refusal_count, summary, summary_of, summary_text, tells_collection}
 use Rattle.script_report.proofs.Reports.{answers-more, next_answers, world-more}
 
@@ -116,7 +115,7 @@ take-found xs k x found = take_more xs k x (slice_get_within xs k x found) ∙ a
 pub soaks_begin : (budget : ℕ) (t : Tally) (machine : World) → t ≡ no_lines → StandsFor machine (first_world budget 1) → HasSoaked budget [] t machine
 soaks_begin budget t machine is stands = subst (λ u. HasSoaked budget [] u machine) (sym is) (record { lines = refl; refused = refl; collections = refl; stands = stands })
 
-module _ (budget start count : ℕ) (t : Tally) (s : Summary) (old new : Output)
+module _ (budget start count : ℕ) (t : Tally) (s : Summary) (old new : SoakOutput)
     (had : HasSoaked budget (soak_lines start count) t new.machine) (is : s ≡ summary_of budget start count (soak_lines start count)) where
   -- the summary was put whole
   pub soak_ends : Gained old.gained (summary_text s) new.gained → EndedSoak budget start count (refused_status (nat_lt 0 t.refused)) old new

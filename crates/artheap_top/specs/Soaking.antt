@@ -9,7 +9,6 @@ use Rattle.script_make.specs.Script.{soak_lines}
 use Rattle.script_report.specs.Report.{answers_of, has_refusal, world_of}
 use Rattle.job_status.specs.declared.status.Status.{Status}
 use Rattle.job_status.specs.declared.status.Status.TheVariants as status
-use Rattle.script_run.specs.Outside.{Output}
 use Rattle.artheap_top.specs.declared.tally.Tally.{Tally}
 use Rattle.artheap_top.specs.Summary.{collection_count, refusal_count, summary, tells_collection}
 
@@ -43,13 +42,23 @@ pub record HasSoaked (budget : ℕ) (ls : List (List ℕ)) (t : Tally) (machine 
   pub collections : t.collections ≡ collection_count (answers_of budget ls)
   pub stands : StandsFor machine (world_of budget ls)
 
+-- what a soak changes: the bytes that the sink has gained, where it tells them, its count of faults, and the machine
+pub record SoakOutput : Type 0 where
+  pub gained : Option (List ℕ)
+  pub write_faults : ℕ
+  pub machine : World
+
+-- what a soak changes, from what a sink tells and from a machine
+abbrev pub soak_output : Option (List ℕ) → ℕ → World → SoakOutput
+soak_output held faults m = record { gained = held; write_faults = faults; machine = m }
+
 -- the generated lines were run, and the machine stands for the world after them
-pub record Soaked (budget start count : ℕ) (refused : Bool) (new : Output) : Type 0 where
+pub record Soaked (budget start count : ℕ) (refused : Bool) (new : SoakOutput) : Type 0 where
   pub refusals : has_refusal (answers_of budget (soak_lines start count)) ≡ refused
   pub stands : StandsFor new.machine (world_of budget (soak_lines start count))
 
 -- what a soak leaves, by its status. It reads nothing
-abbrev pub EndedSoak : ℕ → ℕ → ℕ → Status → Output → Output → Type 0
+abbrev pub EndedSoak : ℕ → ℕ → ℕ → Status → SoakOutput → SoakOutput → Type 0
 EndedSoak budget start count status.Ok old new = Gained old.gained (summary budget start count) new.gained × Soaked budget start count false new
 EndedSoak budget start count status.Refused old new = Gained old.gained (summary budget start count) new.gained × Soaked budget start count true new
 EndedSoak budget start count status.Usage old new = ⊥

@@ -1,8 +1,8 @@
 -- What the words of a call ask for.
-use Rattle.std.specs.Prelude.{ℕ, ◌≤◌, ◌&&◌, List, [], ◌∷◌, Option, None, Some, codes, decimal, nat_le, if◌then◌else◌}
+use Rattle.std.specs.Prelude.{ℕ, Bool, true, false, ◌<◌, ◌≤◌, ◌^◌, ◌&&◌, List, [], ◌∷◌, Option, None, Some, codes, decimal, nat_le, if◌then◌else◌}
 use Rattle.class_layout.specs.Names.{same_name}
 use Rattle.model_numbers.specs.Numbers.{default_regions, most_regions}
-use Rattle.script_lang.specs.Numbers.{digits_number}
+use Rattle.script_lang.specs.Numbers.{digits_number, number_up_to}
 use Rattle.artheap_top.specs.declared.words.Job.{Job}
 use Rattle.artheap_top.specs.declared.words.Job.TheVariants as job
 
@@ -32,26 +32,49 @@ soak_job [] = None
 soak_job (start ∷ []) = None
 soak_job (start ∷ count ∷ words) = soak_of (number_within 0 2147483647 start) (number_within 0 1000000 count) (option_regions words)
 
--- a run with this number of regions, where there is one
-abbrev pub run_of : Option ℕ → Option Job
-run_of None = None
-run_of (Some regions) = Some (job.Run regions)
+-- `--time T`, or nothing
+abbrev pub option_time : List (List ℕ) → Option ℕ
+option_time [] = Some 0
+option_time (word ∷ []) = None
+option_time (word ∷ number ∷ []) = if same_name word (codes "--time") then number_up_to 18446744073709551615 number else None
+option_time (word ∷ number ∷ more ∷ words) = None
+
+-- a run with this number of regions and this time, where both are there
+abbrev pub run_of : Option ℕ → Option ℕ → Option Job
+run_of (Some regions) (Some time) = Some (job.Run regions time)
+run_of (Some regions) None = None
+run_of None time = None
+
+-- `[--regions N] [--time T]`
+abbrev pub run_job : List (List ℕ) → Option Job
+run_job [] = run_of (Some default_regions) (Some 0)
+run_job (word ∷ []) = None
+run_job (word ∷ number ∷ words) =
+    if same_name word (codes "--regions") then run_of (number_within 1 most_regions number) (option_time words)
+    else run_of (Some default_regions) (option_time (word ∷ number ∷ words))
 
 -- a reading, where no word follows
 abbrev pub read_of : List (List ℕ) → Option Job
 read_of [] = Some job.Read
 read_of (word ∷ words) = None
 
--- the job that the words ask for: `run [--regions N]`, `read` or `soak START COUNT [--regions N]`
+-- the job that the words ask for: `run [--regions N] [--time T]`, `read` or `soak START COUNT [--regions N]`
 abbrev pub job_of : List (List ℕ) → Option Job
 job_of [] = None
 job_of (word ∷ words) =
-    if same_name word (codes "run") then run_of (option_regions words)
+    if same_name word (codes "run") then run_job words
     else if same_name word (codes "read") then read_of words
     else if same_name word (codes "soak") then soak_job words else None
 
+-- the job is a run
+abbrev pub asks_run : Option Job → Bool
+asks_run None = false
+asks_run (Some (job.Run regions time)) = true
+asks_run (Some job.Read) = false
+asks_run (Some (job.Soak start count regions)) = false
+
 -- the numbers of a job are within their bounds
 abbrev pub IsPossible : Job → Type 0
-IsPossible (job.Run regions) = (1 ≤ regions) × (regions ≤ most_regions)
+IsPossible (job.Run regions time) = (1 ≤ regions) × (regions ≤ most_regions) × (time < 2 ^ 64)
 IsPossible job.Read = Unit {0}
 IsPossible (job.Soak start count regions) = (start ≤ 2147483647) × (count ≤ 1000000) × (1 ≤ regions) × (regions ≤ most_regions)

@@ -5,9 +5,8 @@ ghost use Rattle.plain_machine.specs.Worlds.{StandsFor};
 ghost use Rattle.script_make.specs.Boot.{boot_lines};
 ghost use Rattle.script_make.specs.Script.{first_state, made_lines, soak_lines};
 ghost use Rattle.model_numbers.specs.Numbers.{line_limit, most_regions};
-ghost use Rattle.script_run.specs.Outside.{output_of};
 ghost use Rattle.job_status.specs.Status.{job_status};
-ghost use Rattle.artheap_top.specs.Soaking.{EndedSoak, HasSoaked, IsWithinLines};
+ghost use Rattle.artheap_top.specs.Soaking.{EndedSoak, HasSoaked, IsWithinLines, soak_output};
 
 use crate::Machine;
 use crate::summary::Summary;
@@ -38,8 +37,8 @@ fn run_line(
         number: tally.lines + 1,
         bytes: line,
     };
-    let reply = step_line(alloc, machine, &fed)?;
-    tally.count(reply);
+    let answered = step_line(alloc, machine, &fed)?;
+    tally.count(answered.reply);
     Ok(())
 }
 
@@ -116,8 +115,8 @@ pub(crate) fn soak<W: Sink>(
 ) -> Result<bool, Stop>
     requires is_new { StandsFor machine.old empty_world }
     requires possible { (start ≤ 2147483647) × (count ≤ 1000000) × (1 ≤ regions) × (regions ≤ most_regions) }
-    ensures ended { let old = output_of (W.gained sink.old) (W.fault_count sink.old) machine.old in
-        let new = output_of (W.gained sink.new) (W.fault_count sink.new) machine.new in
+    ensures ended { let old = soak_output (W.gained sink.old) (W.fault_count sink.old) machine.old in
+        let new = soak_output (W.gained sink.new) (W.fault_count sink.new) machine.new in
         EndedSoak regions start count (job_status result) old new }
     ensures never_falls { W.fault_count sink.old ≤ W.fault_count sink.new }
 {

@@ -6,8 +6,8 @@ ghost use Rattle.job_status.specs.Inputs.{HasFewLeft};
 ghost use Rattle.read_job.specs.Ends.{EndedRead, EndsTold, streams_of};
 ghost use Rattle.script_run.specs.Ends.{EndedRun, EndsWell};
 ghost use Rattle.script_run.specs.Outside.{outside_of, output_of};
-ghost use Rattle.artheap_top.specs.Soaking.{EndedSoak};
-ghost use Rattle.artheap_top.specs.Words.{job_of};
+ghost use Rattle.artheap_top.specs.Soaking.{EndedSoak, soak_output};
+ghost use Rattle.artheap_top.specs.Words.{asks_run, job_of};
 
 use crate::soak::soak;
 use crate::words::{Job, job_of};
@@ -20,9 +20,11 @@ use std::alloc::Global;
 
 /// Does the job that the words name. The words are those after the program's name.
 ///
-/// `run [--regions N]` runs a script of at most 268,435,456 bytes from the source, at most 4,096 bytes at a time. Each
-/// line is run as soon as its line feed was taken, or the input ended behind it, and its reply is put to the sink as one
-/// piece before the next line is run and before more bytes are taken. `read` takes a dump of at most as many bytes, and
+/// `run [--regions N] [--time T]` runs a script of at most 268,435,456 bytes from the source, at most 4,096 bytes at a
+/// time. Each line is run as soon as its line feed was taken, or the input ended behind it, and its reply is put to the
+/// sink as one piece before the next line is run and before more bytes are taken. A line that dumps first adds two entries
+/// to the shelf, `PROCESS.K.hprof` with the dump and `PROCESS.K.map` with the text of its table of addresses. T is the
+/// time in the headers of dumps, in milliseconds, and 0 if it isn't given. `read` takes a dump of at most as many bytes, and
 /// then puts its listing, or the line that tells its first fault. `soak START COUNT [--regions N]` runs the script that
 /// a generator makes of two numbers, START up to 2,147,483,647 and COUNT up to 1,000,000, and puts a summary. N is the
 /// budget of each process in regions, 1 to 512, and 64 if it isn't given.
@@ -41,17 +43,17 @@ pub fn artheap<S: Source, W: Sink, F: Shelf>(
     requires no_entry { (F.shelved shelf.old).unfinished ≡ false }
 
     // What a run, a reading and a soak leave, status by status.
-    ensures run { (regions : ℕ) → job_of (map string_bytes words.now) ≡ Some (Job.Run regions) →
-        let old = outside_of (S.left source.old) (S.fault_count source.old) (W.gained sink.old) (W.fault_count sink.old) machine.old in
-        let new = outside_of (S.left source.new) (S.fault_count source.new) (W.gained sink.new) (W.fault_count sink.new) machine.new in
-        EndedRun regions result old new }
+    ensures run { (regions time : ℕ) → job_of (map string_bytes words.now) ≡ Some (Job.Run regions time) →
+        let old = outside_of (S.left source.old) (S.fault_count source.old) (output_of (W.gained sink.old) (W.fault_count sink.old) (F.shelved shelf.old) (F.fault_count shelf.old) machine.old) in
+        let new = outside_of (S.left source.new) (S.fault_count source.new) (output_of (W.gained sink.new) (W.fault_count sink.new) (F.shelved shelf.new) (F.fault_count shelf.new) machine.new) in
+        EndedRun (record { budget = regions; time = time }) result old new }
     ensures read { job_of (map string_bytes words.now) ≡ Some Job.Read →
         let old = streams_of (S.left source.old) (S.fault_count source.old) (W.gained sink.old) (W.fault_count sink.old) in
         let new = streams_of (S.left source.new) (S.fault_count source.new) (W.gained sink.new) (W.fault_count sink.new) in
         (machine.new ≡ machine.old) × EndedRead result old new }
     ensures soak { (start count regions : ℕ) → job_of (map string_bytes words.now) ≡ Some (Job.Soak start count regions) →
-        let old = output_of (W.gained sink.old) (W.fault_count sink.old) machine.old in
-        let new = output_of (W.gained sink.new) (W.fault_count sink.new) machine.new in
+        let old = soak_output (W.gained sink.old) (W.fault_count sink.old) machine.old in
+        let new = soak_output (W.gained sink.new) (W.fault_count sink.new) machine.new in
         (source.new ≡ source.old) × EndedSoak regions start count result old new }
 
     // The words have no form, and nothing was done.
@@ -60,8 +62,9 @@ pub fn artheap<S: Source, W: Sink, F: Shelf>(
 
     // With words that have a form, a source that tells an input within the limit, and no fault, only want of memory stops
     // a job. A soak has no input.
-    ensures run_complete { (regions : ℕ) → job_of (map string_bytes words.now) ≡ Some (Job.Run regions) → HasFewLeft (S.left source.old) →
-        ¬ FaultRose (S.fault_count source.old) (S.fault_count source.new) → ¬ FaultRose (W.fault_count sink.old) (W.fault_count sink.new) → EndsWell result }
+    ensures run_complete { (regions time : ℕ) → job_of (map string_bytes words.now) ≡ Some (Job.Run regions time) → HasFewLeft (S.left source.old) →
+        ¬ FaultRose (S.fault_count source.old) (S.fault_count source.new) → ¬ FaultRose (W.fault_count sink.old) (W.fault_count sink.new) →
+        ¬ FaultRose (F.fault_count shelf.old) (F.fault_count shelf.new) → EndsWell result }
     ensures read_complete { job_of (map string_bytes words.now) ≡ Some Job.Read → HasFewLeft (S.left source.old) →
         ¬ FaultRose (S.fault_count source.old) (S.fault_count source.new) → ¬ FaultRose (W.fault_count sink.old) (W.fault_count sink.new) → EndsTold result }
     ensures soak_complete { (start count regions : ℕ) → job_of (map string_bytes words.now) ≡ Some (Job.Soak start count regions) →
@@ -70,14 +73,16 @@ pub fn artheap<S: Source, W: Sink, F: Shelf>(
     // No count of faults falls.
     ensures source_faults { S.fault_count source.old ≤ S.fault_count source.new }
     ensures sink_faults { W.fault_count sink.old ≤ W.fault_count sink.new }
+    ensures shelf_faults { F.fault_count shelf.old ≤ F.fault_count shelf.new }
 
-    // No job so far uses the shelf.
-    ensures shelf { shelf.new ≡ shelf.old }
+    // A run alone uses the shelf.
+    ensures shelf { asks_run (job_of (map string_bytes words.now)) ≡ false → shelf.new ≡ shelf.old }
 {
-    let _ = &shelf;
     match job_of(words) {
         None => Status::Usage,
-        Some(Job::Run { regions }) => job_status(run_script(alloc, regions, source, sink, machine)),
+        Some(Job::Run { regions, time }) => {
+            job_status(run_script(alloc, regions, time, source, sink, shelf, machine))
+        }
         Some(Job::Read) => list_input(alloc, source, sink),
         Some(
             Job::Soak {

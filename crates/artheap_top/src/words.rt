@@ -4,14 +4,16 @@ ghost use Rattle.model_numbers.specs.Numbers.{most_regions};
 ghost use Rattle.artheap_top.specs.Words.{IsPossible, job_of, number_within, option_regions, read_of, run_of, soak_job, soak_of};
 
 use model_numbers::{DEFAULT_REGIONS, MOST_REGIONS};
-use script_lang::read_count;
+use script_lang::{read_count, read_unsigned};
 
 /// What the words ask for.
 #[derive(Clone, Copy, Debug, PartialEq, Eq)]
 pub(crate) enum Job {
-    /// A script from the source is run, for processes with this budget of regions.
+    /// A script from the source is run, for processes with this budget of regions. Its dumps have this time in their
+    /// headers.
     Run {
         regions: u32,
+        time: u64,
     },
     /// A dump from the source is read and listed.
     Read,
@@ -45,13 +47,38 @@ fn option_regions(words: &[String]) -> Option<u32>
     }
 }
 
+/// The time that the last words ask for.
+fn option_time(words: &[String]) -> Option<u64>
+    ensures time { result ≡ option_time (map string_bytes words.now) }
+{
+    match words {
+        [] => Some(0),
+        [word, number] if word.as_bytes() == b"--time".as_slice() => {
+            read_unsigned(number.as_bytes())
+        }
+        _ => None,
+    }
+}
+
 /// The run that the words behind `run` ask for.
 fn run_job(words: &[String]) -> Option<Job>
-    ensures job { result ≡ run_of (option_regions (map string_bytes words.now)) }
+    ensures job { result ≡ run_job (map string_bytes words.now) }
     ensures possible { IfSome result IsPossible }
 {
-    let regions = option_regions(words)?;
-    Some(Job::Run { regions })
+    match words {
+        [word, number, more @ ..] if word.as_bytes() == b"--regions".as_slice() => {
+            let regions = number_within(1, MOST_REGIONS, number.as_bytes())?;
+            let time = option_time(more)?;
+            Some(Job::Run { regions, time })
+        }
+        _ => {
+            let time = option_time(words)?;
+            Some(Job::Run {
+                regions: DEFAULT_REGIONS,
+                time,
+            })
+        }
+    }
 }
 
 /// The reading that is asked for where no word stands behind `read`.

@@ -3,7 +3,7 @@ use Rattle.std.specs.Prelude.{ℕ, Bool, true, false, Result, Ok, Err}
 use Rattle.job_status.specs.declared.status.Status.{Status}
 use Rattle.job_status.specs.declared.status.Status.TheVariants as status
 use Rattle.job_status.specs.declared.stop.Stop.{Stop}
-use Rattle.job_status.specs.declared.stop.Stop.TheVariants.{Read, Write, Memory, TooLong}
+use Rattle.job_status.specs.declared.stop.Stop.TheVariants.{Read, Write, Shelf, Memory, TooLong}
 
 -- the exit status
 abbrev pub status_code : Status → ℕ
@@ -21,6 +21,7 @@ status_code status.TooLong = 8
 abbrev pub stop_status : Stop → Status
 stop_status Read = status.ReadFault
 stop_status Write = status.WriteFault
+stop_status Shelf = status.ShelfFault
 stop_status Memory = status.OutOfMemory
 stop_status TooLong = status.TooLong
 

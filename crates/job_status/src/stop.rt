@@ -11,6 +11,8 @@ pub enum Stop {
     Read,
     /// The sink failed.
     Write,
+    /// The shelf failed.
+    Shelf,
     /// Memory was wanting.
     Memory,
     /// The input has more bytes than are allowed.
@@ -36,6 +38,7 @@ impl Stop {
         match self {
             Stop::Read => Status::ReadFault,
             Stop::Write => Status::WriteFault,
+            Stop::Shelf => Status::ShelfFault,
             Stop::Memory => Status::OutOfMemory,
             Stop::TooLong => Status::TooLong,
         }

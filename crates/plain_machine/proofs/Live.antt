@@ -1,5 +1,5 @@
 -- Live processes, one more at a time.
-use Rattle.std.proofs.Common.{◌≡◌, ℕ, zero, suc, ◌+◌, ◌<◌, Bool, true, false, cond, not, List, [], ◌∷◌, ◌++◌, get_or, length, map, sum, take, add-zero, nat_eq, refl, sym, subst, ap, ◌∙◌, arith}
+use Rattle.std.proofs.Common.{◌≡◌, ℕ, zero, suc, ◌+◌, ◌<◌, Bool, true, false, cond, not, List, [], ◌∷◌, ◌++◌, Some, get_or, length, map, sum, take, add-zero, nat_eq, refl, sym, subst, ap, ◌∙◌, arith}
 use Rattle.std.specs.List.{flat_map, list_any}
 use Rattle.std.proofs.lemmas.List.{map-append, take_more}
 use Rattle.std.proofs.lemmas.List.Sums.{sum_by-append}
@@ -7,7 +7,8 @@ use Rattle.heap_world.specs.Pages.{distinct, keep_new, own_page_count}
 use Rattle.std.proofs.lemmas.List.Concat.{flat_map-append}
 use Rattle.heap_world.specs.declared.names.Label.{Label}
 use Rattle.heap_world.specs.Sound.{IsSound}
-use Rattle.heap_world.specs.World.{Process, distinct_labels, keep_label, live, same_label, standing_labels}
+use Rattle.class_layout.specs.Names.{same_name}
+use Rattle.heap_world.specs.World.{Process, distinct_labels, keep_label, live, process_named, same_label, standing_labels}
 use Rattle.plain_machine.specs.Worlds.{AreSound}
 
 -- the live ones of two lists
@@ -77,3 +78,17 @@ label_new l ls h = sym (ap (λ b. length (keep_label b l (distinct_labels ls))) 
 
 pub number_new : (n : ℕ) (ns : List ℕ) → list_any (nat_eq n) ns ≡ false → 1 + length (distinct ns) ≡ length (distinct (n ∷ ns))
 number_new n ns h = sym (ap (λ b. length (keep_new b n (distinct ns))) h ∙ omega arith)
+
+-- a live process that a name finds is sound
+pub sound_named : (qs : List Process) (name : List ℕ) (q : Process) → AreSound qs → process_named (live qs) name ≡ Some q → IsSound q.part
+sound_named [] name q sound h = absurd (cc (h))
+sound_named (p ∷ ps) name q sound h = by p.part.exited (same_name p.name name) refl refl h (sound_named ps name q sound.1)
+  where
+    by : (x b : Bool) → p.part.exited ≡ x → same_name p.name name ≡ b → process_named (cond (not x) (p ∷ live ps) (live ps)) name ≡ Some q
+        → (process_named (live ps) name ≡ Some q → IsSound q.part) → IsSound q.part
+    by true b out e found rest = rest found
+    by false true out e found rest =
+        let first : cond (same_name p.name name) (Some p) (process_named (live ps) name) ≡ Some p = ap (λ b. cond b (Some p) (process_named (live ps) name)) e in
+        let same : p ≡ q = cc (first, found) in
+        subst (λ r. IsSound r.part) same sound.0
+    by false false out e found rest = rest (sym (ap (λ b. cond b (Some p) (process_named (live ps) name)) e) ∙ found)

@@ -9,6 +9,7 @@ ghost use Rattle.plain_machine.specs.Counts as counts;
 
 use crate::process::Process;
 use class_layout::Name;
+use plain_graph::Graph;
 
 fn lives(process: &Process) -> bool
     ensures { result ≡ not process.now.part.exited }
@@ -53,6 +54,13 @@ pub(crate) fn objects_in(process: &Process) -> usize
     ensures { result ≡ objects_in process.now }
 {
     process.part.graph.objects().len()
+}
+
+/// The graph of a process.
+pub(crate) fn graph_in(process: &Process) -> &Graph
+    ensures { result.now ≡ process.now.part.graph }
+{
+    &process.part.graph
 }
 
 /// How many objects a process has, and none where it has exited.

@@ -3,7 +3,7 @@ ghost use Rattle.std.specs.List.{list_any, position};
 ghost use Rattle.std.specs.Option.{option_copied};
 ghost use Rattle.model_numbers.specs.Numbers.{most_regions, number_limit};
 ghost use Rattle.class_layout.specs.Names.{same_name};
-ghost use Rattle.heap_world.specs.Formed.{HasFewFields};
+ghost use Rattle.heap_world.specs.Formed.{HasFewFields, IsFormed};
 ghost use Rattle.heap_world.specs.Sound.{IsSound};
 ghost use Rattle.heap_world.specs.World.{World, child_process, empty_world, first_world, fork_if, frame_count, put_process, step, step_live, step_process, stepped};
 ghost use Rattle.heap_world.specs.Isolation.{is_frames};
@@ -13,12 +13,13 @@ ghost use Rattle.heap_world.specs.Acts.{act};
 ghost use Rattle.plain_machine.specs.Counts as counts;
 ghost use Rattle.plain_machine.specs.Worlds.{Does, StandsFor, forked_child};
 
-use crate::counts::{is_live, live_count, live_named, live_objects, objects_in};
+use crate::counts::{graph_in, is_live, live_count, live_named, live_objects, objects_in};
 use crate::frames::frame_count;
 use crate::part::Part;
 use crate::process::Process;
 use class_layout::Name;
 use heap_world::{Command, Label, Refusal, Reply, Verb, parts_are_sound};
+use plain_graph::Graph;
 use std::alloc::{AllocError, Global};
 use std::marker::Model;
 
@@ -286,6 +287,17 @@ impl Machine {
     {
         let q = live_named(&self.processes, process)?;
         Some(objects_in(q))
+    }
+
+    /// The graph of a live process. `None` comes exactly where no live process has the name.
+    #[tactic(auto, unfolding(crate::specs::Worlds::StandsFor))]
+    pub fn graph(&self, process: &Name) -> Option<&Graph>
+        ensures graph { (w : World) → StandsFor self.now w → option_copied result ≡ counts.graph_of w process.now }
+        ensures own { option_copied result ≡ counts.graph_of self.now process.now }
+        ensures formed { IfSome result (λ g. IsFormed g.now) }
+    {
+        let q = live_named(&self.processes, process)?;
+        Some(graph_in(q))
     }
 
     /// How many objects all live processes have together.

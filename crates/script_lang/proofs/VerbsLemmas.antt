@@ -7,9 +7,6 @@ use Rattle.heap_world.specs.declared.command.Verb.{Verb}
 use Rattle.script_lang.specs.Grammar.{Entry, verb_in, alone_entries, one_entries, two_entries, three_entries, fixed_entries}
 
 -- a word of none of the entries asks nothing
-pub none_of_alone : (word : List ℕ) → same_name word (codes "seal") ≡ false → same_name word (codes "gc") ≡ false → same_name word (codes "exit") ≡ false → same_name word (codes "free") ≡ false → same_name word (codes "pages") ≡ false → same_name word (codes "frames") ≡ false → None ≡ verb_in alone_entries word []
-none_of_alone word a b c d e f = rw (a, b, c, d, e, f) refl
-
 pub none_of_one : (word : List ℕ) (args : List (List ℕ)) → same_name word (codes "drop") ≡ false → same_name word (codes "show") ≡ false → same_name word (codes "fork") ≡ false → None ≡ verb_in one_entries word args
 none_of_one word args a b c = rw (a, b, c) refl
 

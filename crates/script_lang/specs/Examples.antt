@@ -43,6 +43,7 @@ good_lines =
     ∷ (codes "p free\r", verb.Free)
     ∷ (codes "p pages \r", verb.Pages)
     ∷ (codes "p frames", verb.Frames)
+    ∷ (codes "p dump", verb.Dump)
     ∷ []
 
 -- what a line means that asks this of the process p
@@ -58,7 +59,7 @@ abbrev pub bad_lines : List (List ℕ)
 bad_lines =
     codes "p"
     ∷ codes "p frob"
-    ∷ codes "p dump"
+    ∷ codes "p dump a"
     ∷ codes "p GC"
     ∷ codes "p gc a"
     ∷ codes "p gc\r\r"

@@ -65,16 +65,26 @@ pub record Entry : Type 0 where
   pub word : List ℕ
   pub meaning : List (List ℕ) → Option Verb
 
--- the commands without words behind theirs
-abbrev pub alone_entries : List Entry
-alone_entries =
+-- the commands without words behind theirs that do something
+abbrev pub doing_entries : List Entry
+doing_entries =
     record { word = codes "seal"; meaning = alone verb.Seal }
     ∷ record { word = codes "gc"; meaning = alone verb.Gc }
     ∷ record { word = codes "exit"; meaning = alone verb.Exit }
-    ∷ record { word = codes "free"; meaning = alone verb.Free }
+    ∷ record { word = codes "dump"; meaning = alone verb.Dump }
+    ∷ []
+
+-- those that count
+abbrev pub counting_entries : List Entry
+counting_entries =
+    record { word = codes "free"; meaning = alone verb.Free }
     ∷ record { word = codes "pages"; meaning = alone verb.Pages }
     ∷ record { word = codes "frames"; meaning = alone verb.Frames }
     ∷ []
+
+-- all without words behind theirs
+abbrev pub alone_entries : List Entry
+alone_entries = doing_entries ++ counting_entries
 
 -- those with one
 abbrev pub one_entries : List Entry

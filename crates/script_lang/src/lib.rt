@@ -13,6 +13,6 @@ mod words;
 
 pub use feed::{Fed, LineFeed, nothing_is_left, pieces_give_the_lines};
 pub use heap_world::{Command, FieldList, Refusal, Reply, Verb};
-pub use numbers::count as read_count;
+pub use numbers::{count as read_count, unsigned as read_unsigned};
 pub use read::{LineError, read_line};
 pub use text::{put, put_number, reply_text};

@@ -18,8 +18,8 @@ fn digits_value(digits: &[u8]) -> Option<u64>
     Some(value)
 }
 
-/// The number of at most 64 bits that the word is, without a sign or a leading zero.
-fn unsigned(word: &[u8]) -> Option<u64>
+/// The number of at most 64 bits that the word is: decimal digits without a sign or a leading zero.
+pub fn unsigned(word: &[u8]) -> Option<u64>
     ensures { result ≡ number_up_to 18446744073709551615 word.now }
 {
     let (first, more) = word.split_first()?;

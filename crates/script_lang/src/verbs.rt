@@ -3,26 +3,48 @@ ghost use Rattle.heap_world.specs.Formed.{HasFewFields};
 ghost use Rattle.heap_world.specs.declared.command.Verb.TheVariants as verb;
 ghost use Rattle.script_lang.specs.Numbers.{count_of};
 ghost use Rattle.script_lang.specs.Forms.{root_of, class_of, field_of, kind_of, value_of};
-ghost use Rattle.script_lang.specs.Grammar.{one, two, three, verb_in, alone_entries, one_entries, two_entries, three_entries, fixed_entries};
+ghost use Rattle.script_lang.specs.Grammar.{one, two, three, verb_in, alone_entries, counting_entries, doing_entries, one_entries, two_entries, three_entries, fixed_entries};
 
 use crate::Verb;
 use crate::forms::{class_name, field_name, kind, root_name, value};
 use crate::numbers::count;
 use crate::words::Words;
 
-/// What a command's word asks without further words.
-fn alone_verb(word: &[u8]) -> Option<Verb>
-    ensures asked { result ≡ verb_in alone_entries word.now [] }
+/// What a command's word asks to be done without further words.
+fn doing_verb(word: &[u8]) -> Option<Verb>
+    ensures asked { result ≡ verb_in doing_entries word.now [] }
     ensures few_fields { IfSome result HasFewFields }
 {
     match word {
         b"seal" => Some(Verb::Seal),
         b"gc" => Some(Verb::Gc),
         b"exit" => Some(Verb::Exit),
+        b"dump" => Some(Verb::Dump),
+        _ => None,
+    }
+}
+
+/// What a command's word asks to be counted without further words.
+fn counting_verb(word: &[u8]) -> Option<Verb>
+    ensures asked { result ≡ verb_in counting_entries word.now [] }
+    ensures few_fields { IfSome result HasFewFields }
+{
+    match word {
         b"free" => Some(Verb::Free),
         b"pages" => Some(Verb::Pages),
         b"frames" => Some(Verb::Frames),
         _ => None,
+    }
+}
+
+/// What a command's word asks without further words.
+fn alone_verb(word: &[u8]) -> Option<Verb>
+    ensures asked { result ≡ verb_in alone_entries word.now [] }
+    ensures few_fields { IfSome result HasFewFields }
+{
+    match doing_verb(word) {
+        Some(verb) => Some(verb),
+        None => counting_verb(word),
     }
 }
 

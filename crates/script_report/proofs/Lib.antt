@@ -1,3 +1,4 @@
+pub mod Dumps
 pub mod OwnAlone
 pub mod OwnCommands
 pub mod OwnText

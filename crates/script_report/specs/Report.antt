@@ -1,5 +1,5 @@
 -- The report of a script: a function of its bytes.
-use Rattle.std.specs.Prelude.{ℕ, ◌+◌, Bool, true, false, List, [], ◌∷◌, Option, None, Some, Result, Ok, Err, length, nat_le}
+use Rattle.std.specs.Prelude.{ℕ, ◌+◌, Bool, true, false, List, [], ◌∷◌, ◌++◌, Option, None, Some, Result, Ok, Err, length, nat_le}
 use Rattle.std.specs.List.{flat_map, list_any}
 use Rattle.model_numbers.specs.Numbers.{line_limit}
 use Rattle.heap_world.specs.declared.command.Command.{Command}
@@ -14,24 +14,27 @@ use Rattle.script_lang.specs.declared.read.LineError.{LineError}
 use Rattle.script_lang.specs.Grammar.{line_meaning}
 use Rattle.script_lang.specs.Parts.{lines}
 use Rattle.script_lang.specs.Texts.{reply_line}
+use Rattle.script_report.specs.Dumps.{Dumping, dumping_stepped}
 
--- what a line does: the world after it, the reply, if the line has one, and the reads that it allows
+-- what a line does: the world after it, the reply, if the line has one, the dump that it asks for, if it asks for one,
+-- and the reads that it allows
 pub record LineDone : Type 0 where
   pub world : World
   pub reply : Option Reply
+  pub dumps : List Dumping
   pub allowed : ℕ
 
-abbrev pub replied : Stepped → LineDone
-replied s = record { world = s.world; reply = Some s.reply; allowed = s.allowed }
+abbrev pub replied : Command → Stepped → LineDone
+replied c s = record { world = s.world; reply = Some s.reply; dumps = dumping_stepped c s; allowed = s.allowed }
 
 -- a line that is refused before it names a process changes nothing
 abbrev pub line_refused : World → Refusal → LineDone
-line_refused w why = record { world = w; reply = Some (reply.Refused why); allowed = line_reads }
+line_refused w why = record { world = w; reply = Some (reply.Refused why); dumps = []; allowed = line_reads }
 
 -- a command is stepped; a line that is none is refused
 abbrev pub line_done : World → ℕ → Result (Option Command) LineError → LineDone
-line_done w n (Ok None) = record { world = w; reply = None; allowed = 0 }
-line_done w n (Ok (Some command)) = replied (step w n command)
+line_done w n (Ok None) = record { world = w; reply = None; dumps = []; allowed = 0 }
+line_done w n (Ok (Some command)) = replied command (step w n command)
 line_done w n (Err why) = line_refused w refusal.BadLine
 
 -- a line of more than 4,096 bytes is too long, whatever it holds
@@ -52,6 +55,11 @@ with_answer n (Some r) rest = record { line = n; reply = r } ∷ rest
 abbrev pub answers_from : World → ℕ → List (List ℕ) → List Answer
 answers_from w n [] = []
 answers_from w n (l ∷ ls) = let d = step_line w n l in with_answer n d.reply (answers_from d.world (n + 1) ls)
+
+-- the dumps that lines ask for
+abbrev pub dumps_from : World → ℕ → List (List ℕ) → List Dumping
+dumps_from w n [] = []
+dumps_from w n (l ∷ ls) = let d = step_line w n l in d.dumps ++ dumps_from d.world (n + 1) ls
 
 -- the world after lines
 abbrev pub world_after : World → ℕ → List (List ℕ) → World
@@ -78,6 +86,14 @@ answers_of budget ls = answers_from (first_world budget 1) 1 ls
 -- the world after a script's lines
 abbrev pub world_of : ℕ → List (List ℕ) → World
 world_of budget ls = world_after (first_world budget 1) 1 ls
+
+-- the dumps that a script's lines ask for, in order
+abbrev pub dumps_of : ℕ → List (List ℕ) → List Dumping
+dumps_of budget ls = dumps_from (first_world budget 1) 1 ls
+
+-- the dump that a line asks for which follows others
+abbrev pub line_dumps : ℕ → List (List ℕ) → List ℕ → List Dumping
+line_dumps budget before line = (step_line (world_of budget before) (1 + length before) line).dumps
 
 -- the report's text for a line that follows others
 abbrev pub line_report : ℕ → List (List ℕ) → List ℕ → List ℕ

@@ -16,27 +16,33 @@ use Rattle.script_report.specs.Own.{AreAloneIn, told_by_script}
 use Rattle.script_report.specs.Report.{answers, last_world}
 use Rattle.script_run.specs.declared.input.Progress.{Progress}
 use Rattle.job_status.specs.declared.stop.Stop.{Stop}
-use Rattle.job_status.specs.declared.stop.Stop.TheVariants.{Read, Write, Memory, TooLong}
-use Rattle.script_run.specs.Ends.{CameTo, EndedRun, RanLines, StoppedForMemory, TookTooMany}
-use Rattle.script_run.specs.Outside.{Outside, outside_of, output_of}
-use Rattle.script_run.specs.Progress.{HasRun, HasRunLines, HasTaken, StoppedIn, StoppedLast}
+use Rattle.job_status.specs.declared.stop.Stop.TheVariants.{Read, Write, Shelf, Memory, TooLong}
 use Rattle.job_status.specs.Inputs.{NothingLeft}
+use Rattle.script_run.specs.Ends.{CameTo, EndedRun, RanLines, StoppedForMemory, StoppedReading, TookTooMany}
+use Rattle.script_run.specs.Outside.{Outside, Output, Setting, outside_of}
+use Rattle.script_run.specs.Progress.{HasRun, HasRunLines, HasTaken, StoppedIn, StoppedLast}
 use Rattle.job_status.specs.Status.{job_status, refused_status, stop_status}
+use Rattle.script_run.proofs.Dumps.{shelved-none}
 use Rattle.job_status.proofs.Outside.{FaultRose-earlier, Gained-none, Gave-more, Gave-none}
 
 -- no line was run
-lines_begin : (budget : ℕ) (gained : Option (List ℕ)) (writes : ℕ) (m m' : World) → StandsFor m' (first_world budget 1)
-    → HasRunLines budget [] false (output_of gained writes m) (output_of gained writes m')
-lines_begin budget gained writes m m' stands = record { ran = record { report = Gained-none gained; stands = stands }; refusals = refl; counted = omega arith }
+lines_begin : (s : Setting) (out : Output) (m : World) → out.shelved.unfinished ≡ false → StandsFor m (first_world s.budget 1) → HasRunLines s [] false out (record out { machine = m })
+lines_begin s out m finished stands = record {
+  ran = record { report = Gained-none out.gained; dumps = shelved-none s.time out.shelved finished; stands = stands };
+  refusals = refl;
+  counted = omega arith;
+  shelf_counted = omega arith;
+}
 
 -- a run that begins
 abbrev pub started : Feed → Progress
 started feed = record { feed = feed; room = input_limit; refused = false }
 
 -- nothing was taken
-pub turns_begin : (budget : ℕ) (feed : Feed) (left : Option (List ℕ)) (reads : ℕ) (gained : Option (List ℕ)) (writes : ℕ) (m m' : World)
-    → feed ≡ fresh_feed → StandsFor m' (first_world budget 1) → HasTaken budget (started feed) (outside_of left reads gained writes m) (outside_of left reads gained writes m')
-turns_begin budget feed left reads gained writes m m' fresh stands = record {
+pub turns_begin : (s : Setting) (feed : Feed) (left : Option (List ℕ)) (reads : ℕ) (out : Output) (m : World)
+    → feed ≡ fresh_feed → out.shelved.unfinished ≡ false → StandsFor m (first_world s.budget 1)
+    → HasTaken s (started feed) (outside_of left reads out) (outside_of left reads (record out { machine = m }))
+turns_begin s feed left reads out m fresh finished stands = record {
   text = [];
   gave = Gave-none left;
   fits = refl;
@@ -46,21 +52,21 @@ turns_begin budget feed left reads gained writes m m' fresh stands = record {
     cut = refl;
     number = ap (λ f. f.number) fresh;
     kept = ap (λ f. f.kept) fresh;
-    has_run = lines_begin budget gained writes m m' stands;
+    has_run = lines_begin s out m finished stands;
   };
   counted = omega arith;
 }
 
 -- memory was wanting before the first line
-pub not_begun : (budget : ℕ) (left : Option (List ℕ)) (reads : ℕ) (gained : Option (List ℕ)) (writes : ℕ) (m m' : World)
-    → StoppedForMemory budget (outside_of left reads gained writes m) (outside_of left reads gained writes m')
-not_begun budget left reads gained writes m m' = record { before = []; came = inl (record { nothing_taken = refl; no_line = refl }); report = Gained-none gained }
+pub not_begun : (s : Setting) (left : Option (List ℕ)) (reads : ℕ) (out : Output) (m : World)
+    → StoppedForMemory s (outside_of left reads out) (outside_of left reads (record out { machine = m }))
+not_begun s left reads out m = inl (record { nothing_taken = refl; nothing_put = Gained-none out.gained; nothing_shelved = refl })
 
 -- bytes were taken and run
-pub turn_goes_on : (budget : ℕ) (run run' : Progress) (bytes : List ℕ) (old mid new : Outside)
-    → (h : HasTaken budget run old mid) → Gave mid.left bytes new.left → mid.read_faults ≤ new.read_faults → run'.room + length bytes ≡ run.room
-    → HasRun budget (h.text ++ bytes) run'.feed run'.refused old.output new.output → HasTaken budget run' old new
-turn_goes_on budget run run' bytes old mid new h gave falls fewer ran = record {
+pub turn_goes_on : (s : Setting) (run run' : Progress) (bytes : List ℕ) (old mid new : Outside)
+    → (h : HasTaken s run old mid) → Gave mid.left bytes new.left → mid.read_faults ≤ new.read_faults → run'.room + length bytes ≡ run.room
+    → HasRun s (h.text ++ bytes) run'.feed run'.refused old.output new.output → HasTaken s run' old new
+turn_goes_on s run run' bytes old mid new h gave falls fewer ran = record {
   text = h.text ++ bytes;
   gave = Gave-more old.left h.text mid.left bytes new.left h.gave gave;
   fits = omega (arith, h.fits, fewer, length-append h.text bytes);
@@ -73,27 +79,27 @@ pub not_more : (n : ℕ) → nat_lt 0 n ≡ false → n ≡ 0
 not_more n none = omega (arith, ltb-false 0 n none)
 
 -- a read failed
-pub turn_reads_no_more : (budget : ℕ) (run : Progress) (old mid new : Outside)
-    → HasTaken budget run old mid → new.left ≡ mid.left → new.output ≡ mid.output → mid.read_faults ≤ new.read_faults → FaultRose mid.read_faults new.read_faults
-    → EndedRun budget (stop_status Read) old new
-turn_reads_no_more budget run old mid new h same output falls rose = (
+pub turn_reads_no_more : (s : Setting) (run : Progress) (old mid new : Outside)
+    → HasTaken s run old mid → new.left ≡ mid.left → new.output ≡ mid.output → mid.read_faults ≤ new.read_faults → FaultRose mid.read_faults new.read_faults
+    → EndedRun s (stop_status Read) old new
+turn_reads_no_more s run old mid new h same output falls rose = (
   record {
     taken = h.text;
     gave = subst (Gave old.left h.text) (sym same) h.gave;
     fits = omega (arith, h.fits);
-    ran = subst (λ o. RanLines budget (whole_lines h.text) old.output o) (sym output)
-        (subst (λ ls. RanLines budget ls old.output mid.output) (sym (whole_lines-last h.text h.has_run.done h.has_run.part h.has_run.cut)) h.has_run.has_run.ran);
+    ran = subst (λ o. RanLines s (whole_lines h.text) old.output o) (sym output)
+        (subst (λ ls. RanLines s ls old.output mid.output) (sym (whole_lines-last h.text h.has_run.done h.has_run.part h.has_run.cut)) h.has_run.has_run.ran);
   },
   FaultRose-earlier old.read_faults mid.read_faults new.read_faults h.counted falls rose,
 )
 
 -- how far a run came that stopped in what was taken last, of which the first bytes were run
-module _ (budget : ℕ) (run : Progress) (taken : List ℕ) (k : ℕ) (old mid new : Outside) (h : HasTaken budget run old mid) (gave : Gave mid.left taken new.left)
+module _ (s : Setting) (run : Progress) (taken : List ℕ) (k : ℕ) (old mid new : Outside) (h : HasTaken s run old mid) (gave : Gave mid.left taken new.left)
     (short : length taken ≤ piece_bytes) (room : length (take k taken) ≤ run.room) where
   all_given : Gave old.left (h.text ++ taken) new.left
   all_given = Gave-more old.left h.text mid.left taken new.left h.gave gave
 
-  came_to : (stop : Stop) → (s : StoppedIn budget (h.text ++ take k taken) (length (take k taken)) stop old.output new.output) → CameTo old new (s.before ++ s.line ∷ [])
+  came_to : (stop : Stop) → (s : StoppedIn s (h.text ++ take k taken) (length (take k taken)) stop old.output new.output) → CameTo old new (s.before ++ s.line ∷ [])
   came_to stop s =
       let all : take k taken ++ drop k taken ≡ taken = take-append-drop k taken in
       let is : h.text ++ taken ≡ s.upto ++ (s.behind ++ drop k taken) = ap (λ (xs : List ℕ). h.text ++ xs) (sym all)
@@ -108,18 +114,19 @@ module _ (budget : ℕ) (run : Progress) (taken : List ℕ) (k : ℕ) (old mid n
         few = omega (arith, s.few, short, ap length all, length-append (take k taken) (drop k taken), length-append s.behind (drop k taken));
       }
 
-  pub turn_stops : (stop : Stop) → StoppedIn budget (h.text ++ take k taken) (length (take k taken)) stop old.output new.output → EndedRun budget (stop_status stop) old new
+  pub turn_stops : (stop : Stop) → StoppedIn s (h.text ++ take k taken) (length (take k taken)) stop old.output new.output → EndedRun s (stop_status stop) old new
   unfolding came_to
   turn_stops Read s = absurd s.stopped
   turn_stops Write s = (record { before = s.before; line = s.line; came = came_to Write s; put = s.stopped.0 }, s.stopped.1)
-  turn_stops Memory s = record { before = s.before; came = inr (s.line, came_to Memory s); report = s.stopped }
+  turn_stops Shelf s = (record { before = s.before; line = s.line; came = came_to Shelf s; put = s.stopped.0 }, s.stopped.1)
+  turn_stops Memory s = inr (record { before = s.before; line = s.line; came = came_to Memory s; put = s.stopped })
   turn_stops TooLong s = absurd s.stopped
 
 -- there was room for the first bytes that were taken last, and not for all
-pub takes_too_many : (budget : ℕ) (run : Progress) (taken : List ℕ) (feed : Feed) (refused : Bool) (old mid new : Outside)
-    → (h : HasTaken budget run old mid) → Gave mid.left taken new.left → run.room < length taken → length taken ≤ piece_bytes
-    → HasRun budget (h.text ++ take run.room taken) feed refused old.output new.output → TookTooMany budget old new
-takes_too_many budget run taken feed refused old mid new h gave more short ran =
+pub takes_too_many : (s : Setting) (run : Progress) (taken : List ℕ) (feed : Feed) (refused : Bool) (old mid new : Outside)
+    → (h : HasTaken s run old mid) → Gave mid.left taken new.left → run.room < length taken → length taken ≤ piece_bytes
+    → HasRun s (h.text ++ take run.room taken) feed refused old.output new.output → TookTooMany s old new
+takes_too_many s run taken feed refused old mid new h gave more short ran =
     let first : take input_limit (h.text ++ taken) ≡ h.text ++ take run.room taken = ap (λ n. take n (h.text ++ taken)) (sym h.fits) ∙ take-append-add h.text taken run.room in
     let whole : whole_lines (take input_limit (h.text ++ taken)) ≡ ran.done = ap whole_lines first ∙ whole_lines-last (h.text ++ take run.room taken) ran.done ran.part ran.cut in
     record {
@@ -127,7 +134,7 @@ takes_too_many budget run taken feed refused old mid new h gave more short ran =
       gave = Gave-more old.left h.text mid.left taken new.left h.gave gave;
       too_many = omega (arith, h.fits, more, length-append h.text taken);
       barely = omega (arith, h.fits, short, length-append h.text taken);
-      ran = subst (λ ls. RanLines budget ls old.output new.output) (sym whole) ran.has_run.ran;
+      ran = subst (λ ls. RanLines s ls old.output new.output) (sym whole) ran.has_run.ran;
     }
 
 -- what the laws say of every script
@@ -136,14 +143,14 @@ pub record AreIsolated (budget : ℕ) : Type 0 where
   pub told : (text : List ℕ) → map (λ t. t.name) (told_by_script budget text) ≡ map (λ q. q.name) (last_world budget text).processes
 
 -- the input was read to its end, and then its last line was run, or there was none, or it stopped
-module _ (budget : ℕ) (run : Progress) (old mid new : Outside) (laws : AreIsolated budget) (h : HasTaken budget run old mid) (left : new.left ≡ mid.left) (nothing : NothingLeft mid.left) where
+module _ (s : Setting) (run : Progress) (old mid new : Outside) (laws : AreIsolated s.budget) (h : HasTaken s run old mid) (left : new.left ≡ mid.left) (nothing : NothingLeft mid.left) where
   gave_all : Gave old.left h.text new.left
   gave_all = subst (Gave old.left h.text) (sym left) h.gave
 
   none_left : NothingLeft new.left
   none_left = subst NothingLeft (sym left) nothing
 
-  run_ends : (refused : Bool) → HasRunLines budget (lines h.text) refused old.output new.output → EndedRun budget (refused_status refused) old new
+  run_ends : (refused : Bool) → HasRunLines s (lines h.text) refused old.output new.output → EndedRun s (refused_status refused) old new
   run_ends true ran =
       record { text = h.text; gave = gave_all; nothing_left = none_left; fits = omega (arith, h.fits); ran = ran.ran; refusals = ran.refusals; isolated = laws.alone h.text; told = laws.told h.text }
   run_ends false ran =
@@ -160,13 +167,14 @@ module _ (budget : ℕ) (run : Progress) (old mid new : Outside) (laws : AreIsol
     few = omega arith;
   }
 
-  last_stops : (stop : Stop) → StoppedLast budget h.text stop old.output new.output → EndedRun budget (stop_status stop) old new
+  last_stops : (stop : Stop) → StoppedLast s h.text stop old.output new.output → EndedRun s (stop_status stop) old new
   last_stops Read s = absurd s.stopped
   last_stops Write s = (record { before = s.before; line = s.line; came = last_came (s.before ++ s.line ∷ []) s.got; put = s.stopped.0 }, s.stopped.1)
-  last_stops Memory s = record { before = s.before; came = inr (s.line, last_came (s.before ++ s.line ∷ []) s.got); report = s.stopped }
+  last_stops Shelf s = (record { before = s.before; line = s.line; came = last_came (s.before ++ s.line ∷ []) s.got; put = s.stopped.0 }, s.stopped.1)
+  last_stops Memory s = inr (record { before = s.before; line = s.line; came = last_came (s.before ++ s.line ∷ []) s.got; put = s.stopped })
   last_stops TooLong s = absurd s.stopped
 
-  pub run_over : (r : Result Bool Stop) → MatchResult r (λ b. HasRunLines budget (lines h.text) b old.output new.output) (λ stop. StoppedLast budget h.text stop old.output new.output)
-      → EndedRun budget (job_status r) old new
+  pub run_over : (r : Result Bool Stop) → MatchResult r (λ b. HasRunLines s (lines h.text) b old.output new.output) (λ stop. StoppedLast s h.text stop old.output new.output)
+      → EndedRun s (job_status r) old new
   run_over (Ok refused) ran = run_ends refused ran
   run_over (Err stop) s = last_stops stop s

@@ -5,7 +5,7 @@ use Rattle.model_numbers.specs.Numbers.{line_limit}
 use Rattle.script_lang.specs.Feeding.{Feed, has_bytes, kept_line}
 use Rattle.script_lang.specs.Parts.{lines}
 use Rattle.script_lang.proofs.PartsLemmas.{lines-ended, lines-open}
-use Rattle.script_run.specs.Outside.{Output}
+use Rattle.script_run.specs.Outside.{Output, Setting}
 use Rattle.script_run.specs.Progress.{HasRun, HasRunLines}
 
 -- a line that isn't kept has bytes, and so has one that is kept with some
@@ -26,14 +26,14 @@ or_false true = refl
 or_false false = refl
 
 -- no bytes are left for a last line
-pub last_none : (budget : ℕ) (text : List ℕ) (feed : Feed) (refused : Bool) (old new : Output)
-    → HasRun budget text feed refused old new → has_bytes feed.kept ≡ false → HasRunLines budget (lines text) (refused || false) old new
-last_none budget text feed refused old new h none =
+pub last_none : (s : Setting) (text : List ℕ) (feed : Feed) (refused : Bool) (old new : Output)
+    → HasRun s text feed refused old new → has_bytes feed.kept ≡ false → HasRunLines s (lines text) (refused || false) old new
+last_none s text feed refused old new h none =
     let empty : h.part ≡ [] = no_part h.part (ap has_bytes (sym h.kept) ∙ none) in
     let all : lines text ≡ h.done = lines-ended text h.done (h.cut ∙ ap (λ (p : List ℕ). h.done ++ p ∷ []) empty) in
-    subst (λ ls. HasRunLines budget ls (refused || false) old new) (sym all) (subst (λ b. HasRunLines budget h.done b old new) (or_false refused) h.has_run)
+    subst (λ ls. HasRunLines s ls (refused || false) old new) (sym all) (subst (λ b. HasRunLines s h.done b old new) (or_false refused) h.has_run)
 
 -- the bytes that are left are the last line
-pub last_some : (budget : ℕ) (text : List ℕ) (feed : Feed) (refused : Bool) (old new : Output)
-    → (h : HasRun budget text feed refused old new) → has_bytes feed.kept ≡ true → lines text ≡ h.done ++ h.part ∷ []
-last_some budget text feed refused old new h some = lines-open text h.done h.part h.cut (some_part h.part (ap has_bytes (sym h.kept) ∙ some))
+pub last_some : (s : Setting) (text : List ℕ) (feed : Feed) (refused : Bool) (old new : Output)
+    → (h : HasRun s text feed refused old new) → has_bytes feed.kept ≡ true → lines text ≡ h.done ++ h.part ∷ []
+last_some s text feed refused old new h some = lines-open text h.done h.part h.cut (some_part h.part (ap has_bytes (sym h.kept) ∙ some))

@@ -1,3 +1,5 @@
+pub mod Dumps
+pub mod Entries
 pub mod Inputs
 pub mod LastLine
 pub mod Lines

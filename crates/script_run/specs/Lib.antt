@@ -1,3 +1,4 @@
+pub mod Dumps
 pub mod Ends
 pub mod Outside
 pub mod Progress

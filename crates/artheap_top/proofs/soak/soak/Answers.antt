@@ -1,6 +1,5 @@
 use Rattle.script_make.specs.Script.{soak_lines}
-use Rattle.script_run.specs.Outside.{Output, output_of}
-use Rattle.artheap_top.specs.Soaking.{HasSoaked}
+use Rattle.artheap_top.specs.Soaking.{HasSoaked, SoakOutput, soak_output}
 use Rattle.artheap_top.proofs.Soaks.{soak_ends, soak_stops}
 use Rattle.artheap_top.proofs.soak.soak.Goals as goal
 
@@ -11,8 +10,8 @@ returns-in-Ok-clause-ended g c =
     let count = c.args.count in
     let told = g.W.Sink.gained in
     let faults = g.W.Sink.fault_count in
-    let old : Output = output_of (told c.args.sink.now) (faults c.args.sink.now) c.args.machine.now in
-    let new : Output = output_of (told c.put.new.sink) (faults c.put.new.sink) c.run_script.new.machine in
+    let old : SoakOutput = soak_output (told c.args.sink.now) (faults c.args.sink.now) c.args.machine.now in
+    let new : SoakOutput = soak_output (told c.put.new.sink) (faults c.put.new.sink) c.run_script.new.machine in
     let had : HasSoaked regions (soak_lines start count) c.in_ok-tally.tally c.run_script.new.machine = c.in_ok-tally.ensures regions c.in_ok-prepare.ensures.ok in
     soak_ends regions start count c.in_ok-tally.tally c.in_ok-summary.summary old new
     had (c.in_ok-summary.ensures regions (soak_lines start count) had) c.in-Ok.ensures.ok
@@ -24,8 +23,8 @@ returns-in-Err-clause-ended g c =
     let count = c.args.count in
     let told = g.W.Sink.gained in
     let faults = g.W.Sink.fault_count in
-    let old : Output = output_of (told c.args.sink.now) (faults c.args.sink.now) c.args.machine.now in
-    let new : Output = output_of (told c.put.new.sink) (faults c.put.new.sink) c.run_script.new.machine in
+    let old : SoakOutput = soak_output (told c.args.sink.now) (faults c.args.sink.now) c.args.machine.now in
+    let new : SoakOutput = soak_output (told c.put.new.sink) (faults c.put.new.sink) c.run_script.new.machine in
     let had : HasSoaked regions (soak_lines start count) c.in_ok-tally.tally c.run_script.new.machine = c.in_ok-tally.ensures regions c.in_ok-prepare.ensures.ok in
     soak_stops regions start count c.in_ok-tally.tally c.in_ok-summary.summary old new
     had (c.in_ok-summary.ensures regions (soak_lines start count) had) c.in-Err.ensures.failed c.in-Err.ensures.cause

@@ -1,0 +1,6 @@
+//! Dumps of the processes of the plain machine, and where their objects stand.
+#![tactic(auto)]
+
+mod dumps;
+
+pub use dumps::{address, write_dump, write_map};
