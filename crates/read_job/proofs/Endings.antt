@@ -8,7 +8,7 @@ use Rattle.job_status.proofs.Inputs.{few_given}
 use Rattle.job_status.specs.declared.status.Status.{Status}
 use Rattle.job_status.specs.declared.status.Status.TheVariants as status
 use Rattle.job_status.specs.declared.stop.Stop.{Stop}
-use Rattle.job_status.specs.declared.stop.Stop.TheVariants.{Read, Write, Memory, TooLong}
+use Rattle.job_status.specs.declared.stop.Stop.TheVariants.{Read, Write, Shelf, Memory, TooLong}
 use Rattle.job_status.specs.Inputs.{HasFewLeft}
 use Rattle.job_status.specs.Status.{stop_status}
 use Rattle.read_job.specs.Ends.{EndedRead, EndsTold, Streams, TookAll, fault_line, streams_of}
@@ -19,6 +19,7 @@ pub stops_telling : (stop : Stop) (e : ReadError) (text : List ℕ) (held : Opti
     → ((e ≡ OutOfMemory → ⊥) → IsFirstFault e text) → StoppedFault stop e held writes held' writes' → StoppedTelling stop text held writes held' writes'
 stops_telling Read e text held writes held' writes' first s = absurd s
 stops_telling Write e text held writes held' writes' first s = (fault_line e, (inr (e, (first s.0, refl)), s.1, s.2))
+stops_telling Shelf e text held writes held' writes' first s = absurd s
 stops_telling Memory e text held writes held' writes' first s = s
 stops_telling TooLong e text held writes held' writes' first s = absurd s
 
@@ -31,6 +32,7 @@ module _ (text : List ℕ) (left : Option (List ℕ)) (reads : ℕ) (held : Opti
   stops : (stop : Stop) → StoppedTelling stop text held writes held' writes' → EndedRead (stop_status stop) (streams_of left reads held writes) (streams_of left' reads' held' writes')
   stops Read s = absurd s
   stops Write s = ((text, s.0, (took_all, s.1.0, s.1.1)), s.1.2)
+  stops Shelf s = absurd s
   stops Memory s = s
   stops TooLong s = absurd s
 

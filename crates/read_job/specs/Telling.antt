@@ -6,7 +6,7 @@ use Rattle.hprof_read.specs.declared.read_error.ReadError.TheVariants.{OutOfMemo
 use Rattle.job_status.specs.declared.status.Status.{Status}
 use Rattle.job_status.specs.declared.status.Status.TheVariants as status
 use Rattle.job_status.specs.declared.stop.Stop.{Stop}
-use Rattle.job_status.specs.declared.stop.Stop.TheVariants.{Read, Write, Memory, TooLong}
+use Rattle.job_status.specs.declared.stop.Stop.TheVariants.{Read, Write, Shelf, Memory, TooLong}
 use Rattle.job_status.specs.Status.{stop_status}
 use Rattle.read_job.specs.Ends.{IsListing, TellsFault, fault_line}
 
@@ -24,6 +24,7 @@ abbrev pub StoppedTelling : Stop → List ℕ → Option (List ℕ) → ℕ → 
 StoppedTelling Read text held writes held' writes' = ⊥
 StoppedTelling Write text held writes held' writes' =
     (put : List ℕ) × ((IsListing text put ⊎ TellsFault text put) × GainedPrefix held put held' × FaultRose writes writes')
+StoppedTelling Shelf text held writes held' writes' = ⊥
 StoppedTelling Memory text held writes held' writes' = held' ≡ held
 StoppedTelling TooLong text held writes held' writes' = ⊥
 
@@ -31,6 +32,7 @@ StoppedTelling TooLong text held writes held' writes' = ⊥
 abbrev pub StoppedFault : Stop → ReadError → Option (List ℕ) → ℕ → Option (List ℕ) → ℕ → Type 0
 StoppedFault Read e held writes held' writes' = ⊥
 StoppedFault Write e held writes held' writes' = (e ≢ OutOfMemory) × GainedPrefix held (fault_line e) held' × FaultRose writes writes'
+StoppedFault Shelf e held writes held' writes' = ⊥
 StoppedFault Memory e held writes held' writes' = held' ≡ held
 StoppedFault TooLong e held writes held' writes' = ⊥
 
