@@ -1,5 +1,5 @@
 //! Dumps that `artheap read` lists, and texts that it refuses.
-use crate::bytes::{BUILT_IN, FORKED, SMALL, SMALL_LISTING};
+use crate::bytes::{BUILT_IN, FORKED};
 use crate::call::{Request, call};
 use crate::wanted::{ends, holds};
 use artheap_top::Status;
@@ -25,15 +25,8 @@ fn a_listing_ends_with_counts(rt: HostRuntime) -> Result<(), Fail> {
 }
 
 #[test]
-fn a_dump_is_read_or_refused(rt: HostRuntime) -> Result<(), Fail> {
-    for (text, report, status) in [
-        (SMALL.as_slice(), SMALL_LISTING, Status::Ok),
-        (&SMALL[..68], "not a dump: H3 at 46\n", Status::NotDump),
-        (&BUILT_IN[..452], "not a dump: H3 at 444\n", Status::NotDump),
-        (&[], "not a dump: H1 at 0\n", Status::NotDump),
-    ] {
-        let called = call(rt.alloc(), &Request::sound(&["read"], text))?;
-        ends(&rt, &called, status, report.as_bytes());
-    }
+fn a_cut_dump_is_told(rt: HostRuntime) -> Result<(), Fail> {
+    let called = call(rt.alloc(), &Request::sound(&["read"], &BUILT_IN[..452]))?;
+    ends(&rt, &called, Status::NotDump, b"not a dump: H3 at 444\n");
     Ok(())
 }

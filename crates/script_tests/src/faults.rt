@@ -1,8 +1,9 @@
 //! Where a run stops when its source or its sink fails.
 use crate::call::{Called, Request, call, gives};
-use crate::wanted::{counts, ends, has, holds, sums, tells};
+use crate::wanted::{counts, ends, has, holds, sums};
 use artheap_top::Status;
 use class_layout::Name;
+use plain_dumps::address;
 use std::alloc::{AllocError, Global};
 use std::process::Abort;
 use std::test::Fail;
@@ -258,6 +259,7 @@ fn a_failed_put_ends_the_taking(rt: HostRuntime) -> Result<(), Fail> {
     let called = gives(&rt, alloc, &made, b"1: class 2\n", Status::WriteFault)?;
     holds(&rt, called.left >= 35_905);
     let zygote = Name::of(b"zygote").unwrap();
-    tells(&rt, called.machine.object_count(&zygote), Some(1));
+    let at = address(alloc, &called.machine, &zygote, 1)?;
+    holds(&rt, at.map(|at| at.0) == Some(0x2000_0000));
     Ok(())
 }

@@ -104,8 +104,8 @@ pub(crate) const ROWS: [Row; 24] = [
     // seal and names
     Row {
         regions: "64",
-        script: b"zygote fork c\nzygote gc\nzygote seal\nzygote seal\nzygote fork zygote\nd gc\n",
-        report: b"1: E16 not sealed\n2: E16 not sealed\n3: ok\n4: E15 already sealed\n5: E21 process name taken\n6: E3 no such process\n",
+        script: b"zygote fork c\nzygote gc\nzygote dump\nzygote seal\nzygote seal\nzygote fork zygote\nd gc\n",
+        report: b"1: E16 not sealed\n2: E16 not sealed\n3: E16 not sealed\n4: ok\n5: E15 already sealed\n6: E21 process name taken\n7: E3 no such process\n",
         status: Status::Refused,
     },
     // refusals

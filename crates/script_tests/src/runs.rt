@@ -7,6 +7,7 @@ use crate::wanted::{counts, holds, sums, tells};
 use artheap_top::{Machine, Status};
 use class_layout::Name;
 use heap_world::{Command, Refusal, Reply, Verb};
+use std::alloc::AllocError;
 use std::process::Abort;
 use std::test::Fail;
 
@@ -44,7 +45,7 @@ struct Case {
     status: Status,
 }
 
-const CASES: [Case; 15] = [
+const CASES: [Case; 21] = [
     Case {
         words: &["run"],
         script: b"",
@@ -165,6 +166,54 @@ const CASES: [Case; 15] = [
         report: b"",
         status: Status::Usage,
     },
+    Case {
+        words: &["run", "--regions", "1", "--time", "18446744073709551615"],
+        script: b"",
+        takes: &[],
+        puts: &[],
+        report: b"",
+        status: Status::Ok,
+    },
+    Case {
+        words: &["run", "--time", "18446744073709551616"],
+        script: b"",
+        takes: &[1],
+        puts: &[],
+        report: b"",
+        status: Status::Usage,
+    },
+    Case {
+        words: &["run", "--time", "01"],
+        script: b"",
+        takes: &[1],
+        puts: &[],
+        report: b"",
+        status: Status::Usage,
+    },
+    Case {
+        words: &["run", "--time"],
+        script: b"",
+        takes: &[1],
+        puts: &[],
+        report: b"",
+        status: Status::Usage,
+    },
+    Case {
+        words: &["run", "--time", "1", "--regions", "1"],
+        script: b"",
+        takes: &[1],
+        puts: &[],
+        report: b"",
+        status: Status::Usage,
+    },
+    Case {
+        words: &["soak", "1", "2", "--time", "1"],
+        script: b"",
+        takes: &[1],
+        puts: &[],
+        report: b"",
+        status: Status::Usage,
+    },
 ];
 
 #[test]
@@ -193,16 +242,37 @@ fn run(script: &[u8]) -> Request<'_> {
     }
 }
 
-#[test]
-fn one_byte_more_than_a_line_has_is_too_long(rt: HostRuntime) -> Result<(), Fail> {
-    let alloc = rt.alloc();
-    let mut script = vec![in alloc; b'#'; 4_096]?;
-    script.push(b'\n')?;
-    for _ in 0..4_097 {
-        script.push(b'#')?;
+/// Lines at the edges of the grammar; the last one lacks its name.
+const EDGES: &[u8] =
+    b"zygote gc\r\nzygote set a x -0\nzygote set a x 9223372036854775808\nzygote get a\nzygote at a 01\nzygote show a\xc3\nzygote show a\x00b\nzygote show ";
+
+/// Their replies, behind those of a line of 4,096 blanks and of one with a blank more.
+const EDGE_REPLIES: &[u8] =
+    b"2: E2 line too long\n3: E16 not sealed\n4: E1 bad line\n5: E1 bad line\n6: E1 bad line\n7: E1 bad line\n8: E1 bad line\n9: E1 bad line\n10: E1 bad line\n";
+
+/// Adds a line of one byte, repeated.
+fn push_line(script: &mut Vec<u8>, byte: u8, count: usize) -> Result<(), AllocError> {
+    for _ in 0..count {
+        script.push(byte)?;
     }
-    let report = b"2: E2 line too long\n";
-    let _ = gives(&rt, alloc, &run(&script), report, Status::Refused)?;
+    script.push(b'\n')?;
+    Ok(())
+}
+
+#[test]
+fn lines_at_the_edges_of_the_grammar(rt: HostRuntime) -> Result<(), Fail> {
+    let mut script = Vec::new(rt.alloc());
+    push_line(&mut script, b' ', 4_096)?;
+    push_line(&mut script, b' ', 4_097)?;
+    script.extend_from_slice(EDGES)?;
+    push_line(&mut script, b'a', 129)?;
+    let _ = gives(
+        &rt,
+        rt.alloc(),
+        &run(&script),
+        EDGE_REPLIES,
+        Status::Refused,
+    )?;
     Ok(())
 }
 
