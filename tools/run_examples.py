@@ -10,19 +10,23 @@ In docs/script.md an example is a block `script`, `pattern` or `bytes`, with its
 block `report`, where `..` in front stands for lines that aren't shown. Between them the page tells the status. In a
 pattern `{0..9}` makes a line for each number, and `{x*100}` is 100 times x. In bytes each line ends as it says.
 In docs/dumps.md a block `dump` stands for a script: in each line pairs of digits of base 16, and words behind them.
-In examples/ the first line of a script names its words where it wants an option.
+In examples/ the first line of a script names its words where it wants an option. Beside SCRIPT.script stand the files
+that its dumps leave: SCRIPT.PROCESS.K.map is a table of addresses as it is, SCRIPT.PROCESS.K.listing what `artheap read`
+prints of a dump.
 """
 
 import os
 import re
 import subprocess
 import sys
+import tempfile
 from collections import namedtuple
 
 TOP = os.path.dirname(os.path.dirname(os.path.realpath(__file__)))
 
-# where it stands, the words behind the program's name, the script, the status or None, and the lines of the report
-Example = namedtuple("Example", "place words script status report")
+# where it stands, the words behind the program's name, the script, the status or None, the lines of the report, and the
+# texts of the tables and of the listings of its dumps by their names, or None where it doesn't tell them
+Example = namedtuple("Example", "place words script status report dumped")
 
 
 def expanded(line):
@@ -55,12 +59,22 @@ def examples_of_page(file):
         if kind != "report":
             place = f"{file}:{text.count(chr(10), 0, found.start()) + 1}"
             words = ["read"] if kind == "dump" else ["run", *options]
-            given = Example(place, words, script_of(kind, lines), None, None)
+            given = Example(place, words, script_of(kind, lines), None, None, None)
             end = found.end()
         elif given:
             told = re.search(r"status (\d)", text[end : found.start()])
             yield given._replace(status=int(told[1]) if told else None, report=lines)
             given = None
+
+
+def dumped_beside(folder, stem):
+    """The texts of an example's tables and listings, by the names without the script's."""
+    dumped = {}
+    for name in os.listdir(folder):
+        if name.startswith(f"{stem}.") and name.endswith((".map", ".listing")):
+            with open(f"{folder}/{name}", encoding="utf-8") as text:
+                dumped[name[len(stem) + 1 :]] = text.read()
+    return dumped
 
 
 def examples_of_folder(folder):
@@ -73,24 +87,55 @@ def examples_of_folder(folder):
         asked = re.match(rb"# artheap (run [^\n]*)\n", text)
         words = asked[1].decode().split() if asked else ["run"]
         refused = any(re.match(r"\d+: E\d", line) for line in lines)
-        yield Example(f"{folder}/{name}", words, text, int(refused), lines)
+        yield Example(f"{folder}/{name}", words, text, int(refused), lines, dumped_beside(f"{TOP}/{folder}", stem))
+
+
+def dumped_in(program, folder):
+    """The tables and the listings of the dumps that a run left in its folder."""
+    dumped = {}
+    for name in os.listdir(folder):
+        stem, kind = os.path.splitext(name)
+        with open(f"{folder}/{name}", "rb") as entry:
+            if kind == ".hprof":
+                listing = subprocess.run([program, "read"], stdin=entry, capture_output=True, check=True).stdout
+                dumped[f"{stem}.listing"] = listing.decode()
+            else:
+                dumped[name] = entry.read().decode()
+    return dumped
+
+
+def different_line(told, wanted):
+    """The first line that isn't as the example says, or None."""
+    for line, want in zip([*told, "nothing"], [*wanted, "nothing"]):
+        if line != want:
+            return f"it says {want!r}, and the program {line!r}"
+    return None
 
 
 def difference(program, example):
     """What isn't as the example says, or None."""
-    ran = subprocess.run([program, *example.words], input=example.script, capture_output=True)
+    with tempfile.TemporaryDirectory() as folder:
+        ran = subprocess.run([program, *example.words], input=example.script, capture_output=True, cwd=folder)
+        dumped = dumped_in(program, folder)
     if ran.stdout and not ran.stdout.endswith(b"\n"):
         return "the program's last line has no line feed"
-    lines = ran.stdout.decode(errors="replace").splitlines()
-    wanted = example.report
+    lines, wanted = ran.stdout.decode(errors="replace").splitlines(), example.report
     if wanted[:1] == [".."]:
         wanted = wanted[1:]
         lines = lines[-len(wanted) :]
-    for told, want in zip([*lines, "nothing"], [*wanted, "nothing"]):
-        if told != want:
-            return f"it says {want!r}, and the program {told!r}"
+    found = different_line(lines, wanted)
+    if found:
+        return found
     if example.status is not None and ran.returncode != example.status:
         return f"it says status {example.status}, and the program ends with {ran.returncode}"
+    if example.dumped is None:
+        return None
+    if dumped.keys() != example.dumped.keys():
+        return f"it has {sorted(example.dumped)}, and the program leaves {sorted(dumped)}"
+    for name, text in sorted(example.dumped.items()):
+        found = different_line(dumped[name].splitlines(), text.splitlines())
+        if found:
+            return f"{name}: {found}"
     return None
 
 
@@ -98,7 +143,7 @@ def main():
     words = [it for it in sys.argv[1:] if it != "--fast"]
     if len(words) > 1 or any(it.startswith("-") for it in words):
         sys.exit(__doc__)
-    program = words[0] if words else f"{TOP}/crates/artheap_cli/out/artheap_cli"
+    program = os.path.realpath(words[0]) if words else f"{TOP}/crates/artheap_cli/out/artheap_cli"
     if not os.access(program, os.X_OK):
         sys.exit(f"{program} isn't there: ./build makes the program")
     ran = differ = left_out = 0
