@@ -15,14 +15,14 @@ VERBS = {
     "at": ("At", "name", "count"), "copy": ("Copy", "name", "name"), "load": ("Load", "name", "name", "name"),
     "loadat": ("LoadAt", "name", "name", "count"), "drop": ("Drop", "name"), "show": ("Show", "name"),
     "seal": ("Seal",), "gc": ("Gc",), "fork": ("Fork", "name"), "exit": ("Exit",), "free": ("Free",),
-    "pages": ("Pages",), "frames": ("Frames",),
+    "pages": ("Pages",), "frames": ("Frames",), "dump": ("Dump",),
 }
 
 # the forms of replies but for refusals, and the variant of each; the groups are its words
 REPLIES = tuple((re.compile(form), variant) for form, variant in (
     (r"ok", "Done"), (r"null", "Null"), (r"class (\d+)", "Class"), (r"(-?\d+)", "Number"),
     (r"#(\d+) (\S+)", "Shown"), (r"#(\d+)", "Object"), (r"kept (\d+) freed (\d+)", "Kept"),
-    (r"regions (\d+)", "Regions"), (r"frames (\d+)", "Frames"),
+    (r"regions (\d+)", "Regions"), (r"frames (\d+)", "Frames"), (r"dump (\d+) objects (\d+)", "Dumped"),
     (r"image (\d+) (\d+) zygote (\d+) (\d+) large (\d+) (\d+)", "Pages"),
 ))
 
