@@ -1,3 +1,4 @@
+pub mod Answered
 pub mod Dumps
 pub mod Entries
 pub mod Inputs
