@@ -5,3 +5,4 @@ pub mod Inputs
 pub mod LastLine
 pub mod Lines
 pub mod Pieces
+pub mod Steps
