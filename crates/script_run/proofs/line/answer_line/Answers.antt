@@ -5,7 +5,7 @@ use Rattle.script_lang.specs.FedLines.{fed_line}
 use Rattle.script_report.specs.Report.{LineDone, step_line, with_answer}
 use Rattle.script_run.specs.Outside.{Output, output_of}
 use Rattle.script_run.specs.Progress.{StoppedLine}
-use Rattle.script_run.proofs.Answered.{put_behind, stops_dumping}
+use Rattle.script_run.proofs.Replies.{put_behind, stops_dumping}
 use Rattle.script_run.proofs.line.answer_line.Goals as goal
 
 pub returns-in-Ok-clause-done : goal.returns-in-Ok-clause-done
