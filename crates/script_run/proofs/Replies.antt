@@ -18,34 +18,6 @@ use Rattle.script_run.specs.Dumps.{HasShelved, StoppedShelving}
 use Rattle.script_run.specs.Outside.{Output}
 use Rattle.script_run.specs.Progress.{RanLine, StoppedLine, dump_stop}
 
--- no reply has no report, and is no refusal
-pub put_none : (n : ℕ) (o : Option Reply) (held : Option (List ℕ)) → o ≡ None
-    → Gained held (report_of (with_answer n o [])) held × (has_refusal (with_answer n o []) ≡ false)
-put_none n o held is =
-    subst (λ r. Gained held (report_of (with_answer n r [])) held × (has_refusal (with_answer n r []) ≡ false)) (sym is) (Gained-none held, refl)
-
--- the line of a reply is its report
-pub put_whole : (n : ℕ) (o : Option Reply) (r : Reply) (old new : Option (List ℕ)) (refused : Bool) → o ≡ Some r → Gained old (reply_line n r) new → refused ≡ is_refusal r
-    → Gained old (report_of (with_answer n o [])) new × (has_refusal (with_answer n o []) ≡ refused)
-put_whole n o r old new refused is told same = (
-  subst (λ (xs : List ℕ). Gained old xs new) (sym (report_of-one n r) ∙ ap (λ p. report_of (with_answer n p [])) (sym is)) told,
-  ap (λ p. has_refusal (with_answer n p [])) is ∙ (has_refusal-one n r ∙ sym same),
-)
-
--- it has bytes
-some_behind : (xs : List ℕ) (y : ℕ) (ys : List ℕ) → xs ++ y ∷ ys ≢ []
-some_behind [] y ys h = cc (h)
-some_behind (x ∷ xs) y ys h = cc (h)
-
--- of the line of a reply the first bytes were put
-pub put_part : (n : ℕ) (o : Option Reply) (r : Reply) (old new : Option (List ℕ)) → o ≡ Some r → GainedPrefix old (reply_line n r) new
-    → (report_of (with_answer n o []) ≢ []) × GainedPrefix old (report_of (with_answer n o [])) new
-put_part n o r old new is told =
-    let same : reply_line n r ≡ report_of (with_answer n o []) = sym (report_of-one n r) ∙ ap (λ p. report_of (with_answer n p [])) (sym is) in (
-      subst (λ (xs : List ℕ). xs ≢ []) same (some_behind (decimal n) 58 (32 ∷ reply_words r ++ codes "\n")),
-      subst (λ (xs : List ℕ). GainedPrefix old xs new) same told,
-    )
-
 module _ (time n : ℕ) (d : LineDone) (old new : Output) (stands : StandsFor new.machine d.world) where
   -- the dump was written, and then the reply was put, or stopped
   pub put_behind : (given : List Answer) (r : Result Bool Stop) → given ≡ with_answer n d.reply [] → HasShelved time d.dumps old.shelved new.shelved

@@ -9,7 +9,7 @@ use Rattle.script_run.proofs.line.add_asked.Goals as goal
 pub returns-in-Some-clause-done : goal.returns-in-Some-clause-done
 returns-in-Some-clause-done g c = λ w ds stands asked.
     let one = subst (λ o. IsAsked o ds w) c.in-Some.is asked in
-    let d : Dumping = record { process = c.in-Some.dumped.now.process; count = c.in-Some.dumped.now.count; graph = one.0 } in
+    let d : Dumping = record { process = c.in-Some.dumped.process; count = c.in-Some.dumped.count; graph = one.0 } in
     let old : Shelved = g.F.Shelf.shelved c.args.shelf.now in
     let new : Shelved = g.F.Shelf.shelved c.add_entries.new.shelf in
     MatchResult-weaker c.add_entries.result (c.add_entries.ensures.done w one.0 stands one.1)
