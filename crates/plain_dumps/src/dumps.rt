@@ -37,6 +37,15 @@ pub fn address(
     Ok(View::new(alloc, graph)?.address_of(number))
 }
 
+/// The addresses of a live process's objects fit its graph. It looks up the process, and changes nothing.
+pub fn addresses_fit(machine: &Machine, process: &Name)
+    ensures { (w : World) (g : Graph) → StandsFor machine.now w → graph_of w process.now ≡ Some g → Fits (addresses machine.now process.now) g }
+{
+    let Some(_graph) = machine.graph(process) else {
+        return;
+    };
+}
+
 /// Appends the dump of a live process to the unfinished entry, with the time in milliseconds. After an error some first
 /// bytes of it may have been appended. Where no live process has the name, nothing is appended. The machine stands for
 /// the same worlds, and its objects stay where they are.

@@ -3,4 +3,4 @@
 
 mod dumps;
 
-pub use dumps::{address, write_dump, write_map};
+pub use dumps::{address, addresses_fit, write_dump, write_map};

@@ -4,3 +4,5 @@ pub mod Inputs
 pub mod LastLine
 pub mod Lines
 pub mod Pieces
+pub mod Replies
+pub mod Steps

@@ -1,6 +1,6 @@
 //! What is to be dumped, and its two entries on the shelf.
-ghost use Rattle.std.specs.Prelude.{◌≡◌, ◌∷◌, ◌≤◌, ℕ, List, [], Some, false, true, codes, IfOk, MatchResult, OnOk};
-ghost use Rattle.ah_outside.specs.Outside.{FaultRose};
+ghost use Rattle.std.specs.Prelude.{◌≡◌, ◌⊎◌, ◌∷◌, ◌≤◌, ℕ, List, [], Some, false, true, codes, IfOk, MatchResult, OnOk};
+ghost use Rattle.ah_outside.specs.Outside.{Begun, FaultRose};
 ghost use Rattle.heap_graph.specs.Graph.{Graph};
 ghost use Rattle.heap_graph.specs.Table.{Fits};
 ghost use Rattle.heap_world.specs.World.{World};
@@ -16,7 +16,7 @@ use ah_outside::Shelf;
 use class_layout::Name;
 use hprof_write::DumpError;
 use itoa::Buffer;
-use plain_dumps::{write_dump, write_map};
+use plain_dumps::{addresses_fit, write_dump, write_map};
 use script_lang::{Command, Reply, Verb};
 use std::alloc::{AllocError, Global};
 
@@ -54,6 +54,25 @@ fn entry_name(alloc: Global, dumped: &Dumped, ending: &[u8]) -> Result<Vec<u8>, 
     Ok(name)
 }
 
+/// Begins an entry of a dump.
+fn begin_entry<F: Shelf>(
+    alloc: Global,
+    dumped: &Dumped,
+    ending: &[u8],
+    shelf: &mut F,
+) -> Result<(), DumpError>
+    requires finished { (F.shelved shelf.old).unfinished ≡ false }
+    ensures done { let name = entry_name dumped.now.process dumped.now.count ending.now in MatchResult result
+        (λ _. Begun (F.shelved shelf.old) name (F.shelved shelf.new))
+        (λ _. (F.shelved shelf.new ≡ F.shelved shelf.old) ⊎ Begun (F.shelved shelf.old) name (F.shelved shelf.new)) }
+    ensures cause { IfShelfFault result (FaultRose (F.fault_count shelf.old) (F.fault_count shelf.new)) }
+    ensures never_falls { F.fault_count shelf.old ≤ F.fault_count shelf.new }
+{
+    let name = entry_name(alloc, dumped, ending)?;
+    shelf.begin(&name)?;
+    Ok(())
+}
+
 /// Adds the entry of a dump, with the time in milliseconds, and closes it.
 fn add_dump<F: Shelf>(
     alloc: Global,
@@ -75,8 +94,8 @@ fn add_dump<F: Shelf>(
     ensures cause { IfShelfFault result (FaultRose (F.fault_count shelf.old) (F.fault_count shelf.new)) }
     ensures never_falls { F.fault_count shelf.old ≤ F.fault_count shelf.new }
 {
-    let name = entry_name(alloc, dumped, b"hprof")?;
-    shelf.begin(&name)?;
+    addresses_fit(machine, &dumped.process);
+    begin_entry(alloc, dumped, b"hprof", shelf)?;
     write_dump(alloc, machine, &dumped.process, time, shelf)?;
     shelf.finish()?;
     Ok(())
@@ -99,8 +118,7 @@ fn add_map<F: Shelf>(
     ensures cause { IfShelfFault result (FaultRose (F.fault_count shelf.old) (F.fault_count shelf.new)) }
     ensures never_falls { F.fault_count shelf.old ≤ F.fault_count shelf.new }
 {
-    let name = entry_name(alloc, dumped, b"map")?;
-    shelf.begin(&name)?;
+    begin_entry(alloc, dumped, b"map", shelf)?;
     write_map(alloc, machine, &dumped.process, shelf)?;
     shelf.finish()?;
     Ok(())

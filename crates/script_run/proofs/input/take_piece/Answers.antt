@@ -5,7 +5,6 @@ use Rattle.model_numbers.specs.Numbers.{piece_bytes}
 use Rattle.script_run.specs.Outside.{Outside, outside_of, output_of}
 use Rattle.script_run.specs.Progress.{HasRun}
 use Rattle.job_status.proofs.Inputs.{nothing_given}
-use Rattle.job_status.proofs.Inputs.{nothing_given}
 use Rattle.script_run.proofs.Inputs.{not_more, takes_too_many, turn_goes_on, turn_reads_no_more, turn_stops}
 use Rattle.script_run.proofs.input.take_piece.Goals as goal
 

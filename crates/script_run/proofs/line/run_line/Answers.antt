@@ -18,7 +18,7 @@ returns-clause-done g c = λ s before line old refused whole timed number kept h
     let new : Output = output_of (told c.answer_line.new.sink) (faults c.answer_line.new.sink) (g.F.Shelf.shelved c.answer_line.new.shelf) (g.F.Shelf.fault_count c.answer_line.new.shelf) c.answer_line.new.machine in
     runs_behind s before line fed.number refused old mid new had (ap (λ l. l.number) is ∙ number) c.answer_line.ensures.never_falls c.answer_line.ensures.shelf_never_falls c.in_ok-refused.refused
     (subst (λ t. RanLine t fed.number (step_line (world_of s.budget before) fed.number line) c.in_ok-refused.refused mid new) (sym timed)
-    (c.in_ok-refused.ensures.done (world_of s before) line had.ran.stands (ap (λ l. l.kept) is ∙ kept)))
+    (c.in_ok-refused.ensures.done (world_of s.budget before) line had.ran.stands (ap (λ l. l.kept) is ∙ kept)))
 
 pub returns-in_err-refused-clause-done : goal.returns-in_err-refused-clause-done
 returns-in_err-refused-clause-done g c = λ s before line old refused whole timed number kept had.
@@ -32,4 +32,4 @@ returns-in_err-refused-clause-done g c = λ s before line old refused whole time
     rw (p.1, p.2)
     (stops_behind s before line fed.number refused old mid new had (ap (λ l. l.number) is ∙ number) c.answer_line.ensures.never_falls c.answer_line.ensures.shelf_never_falls c.in_err-refused.field-0.0
     (subst (λ t. StoppedLine c.in_err-refused.field-0.0 t fed.number (step_line (world_of s.budget before) fed.number line) mid new) (sym timed)
-    (c.in_err-refused.ensures.done (world_of s before) line had.ran.stands (ap (λ l. l.kept) is ∙ kept))))
+    (c.in_err-refused.ensures.done (world_of s.budget before) line had.ran.stands (ap (λ l. l.kept) is ∙ kept))))

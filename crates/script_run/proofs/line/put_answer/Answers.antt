@@ -1,0 +1,1 @@
+use Rattle.script_run.proofs.line.put_answer.Goals as goal
