@@ -1,5 +1,5 @@
 -- The entries of dumps on a shelf: added one behind the other, and in part. And what a line asks to be dumped.
-use Rattle.std.proofs.Common.{◌≡◌, ◌⊎◌, inl, inr, ℕ, Bool, true, false, List, [], ◌∷◌, ◌++◌, Option, None, Some, refl, sym, ◌∙◌, ap, subst, append_assoc}
+use Rattle.std.proofs.Common.{◌≡◌, inl, inr, ℕ, Bool, true, false, List, [], ◌∷◌, ◌++◌, Option, None, Some, refl, sym, ◌∙◌, ap, subst, append_assoc}
 use Rattle.std.specs.Option.{option_map}
 use Rattle.std.proofs.lemmas.List.{append-nil}
 use Rattle.ah_outside.specs.Outside.{Entry, Shelved}
@@ -13,7 +13,7 @@ use Rattle.heap_world.proofs.Processes.{named-put, named_name}
 use Rattle.plain_machine.specs.Counts.{graph_in_any}
 use Rattle.script_report.specs.Dumps.{Dumping, dumping_asked, dumping_of, dumping_stepped}
 use Rattle.script_report.proofs.Dumps.{live-named}
-use Rattle.script_run.specs.Dumps.{AreBegun, AreDumped, HasEntry, HasEntryPart, HasShelved, HasShelvedPart, IsAsked, IsBegun, dump_entries, dump_entry, dumped_by, map_entry}
+use Rattle.script_run.specs.Dumps.{AreDumped, HasEntry, HasEntryPart, HasShelved, HasShelvedPart, IsAsked, dump_entries, dump_entry, dumped_by, map_entry}
 
 -- entries behind entries
 pub told-more : (old : Option (List Entry)) (es : List Entry) (mid : Option (List Entry)) (fs : List Entry) (new : Option (List Entry))

@@ -1,5 +1,5 @@
 -- One entry of a shelf: begun, filled, closed, or stopped in between.
-use Rattle.std.proofs.Common.{◌≡◌, ◌⊎◌, inl, inr, ℕ, ◌≤◌, true, false, List, [], ◌∷◌, ◌++◌, Option, None, Some, length, take, refl, sym, ◌∙◌, ap, arith}
+use Rattle.std.proofs.Common.{◌≡◌, ◌⊎◌, inl, inr, ℕ, true, false, List, [], ◌∷◌, ◌++◌, Option, None, Some, length, take, refl, sym, ◌∙◌, ap, arith}
 use Rattle.std.specs.Option.{option_map}
 use Rattle.std.proofs.lemmas.List.{take_all}
 use Rattle.ah_outside.specs.Outside.{Appended, Begun, Closed, Entry, Shelved, begun, with_bytes, with_last_closed}
@@ -40,7 +40,7 @@ put_open old mid new name bytes a b =
 pub put_whole : (whole : Entry) (old mid full new : Shelved) → whole.closed ≡ true → Begun old whole.name mid → Appended mid whole.bytes full → Closed full new → HasEntry whole old new
 put_whole whole old mid full new closed a b c = record {
   told = ap (λ s. s.entries) c ∙ (ap (option_map with_last_closed) (put_open old mid full whole.name whole.bytes a b)
-  ∙ (ended old.entries whole.name whole.bytes ∙ ap (λ b. option_map (λ es. es ++ record { name = whole.name; bytes = whole.bytes; closed = b } ∷ []) old.entries) (sym closed)));
+      ∙ (ended old.entries whole.name whole.bytes ∙ ap (λ b. option_map (λ es. es ++ record { name = whole.name; bytes = whole.bytes; closed = b } ∷ []) old.entries) (sym closed)));
   finished = ap (λ s. s.unfinished) c;
 }
 

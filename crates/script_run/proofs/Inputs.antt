@@ -18,7 +18,7 @@ use Rattle.script_run.specs.declared.input.Progress.{Progress}
 use Rattle.job_status.specs.declared.stop.Stop.{Stop}
 use Rattle.job_status.specs.declared.stop.Stop.TheVariants.{Read, Write, Shelf, Memory, TooLong}
 use Rattle.job_status.specs.Inputs.{NothingLeft}
-use Rattle.script_run.specs.Ends.{CameTo, EndedRun, RanLines, StoppedForMemory, StoppedReading, TookTooMany}
+use Rattle.script_run.specs.Ends.{CameTo, EndedRun, RanLines, StoppedForMemory, TookTooMany}
 use Rattle.script_run.specs.Outside.{Outside, Output, Setting, outside_of}
 use Rattle.script_run.specs.Progress.{HasRun, HasRunLines, HasTaken, StoppedIn, StoppedLast}
 use Rattle.job_status.specs.Status.{job_status, refused_status, stop_status}

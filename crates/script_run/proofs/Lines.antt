@@ -1,6 +1,6 @@
 -- One more line behind others: it was run, or stopped.
 use Rattle.std.proofs.Common.{◌≡◌, ℕ, ◌+◌, ◌≤◌, ◌||◌, Bool, List, [], ◌∷◌, ◌++◌, length, take, sym, ◌∙◌, ap, subst, arith}
-use Rattle.ah_outside.specs.Outside.{Gained, Shelved}
+use Rattle.ah_outside.specs.Outside.{Gained}
 use Rattle.plain_machine.specs.Worlds.{StandsFor}
 use Rattle.script_report.specs.Report.{answers_of, dumps_of, has_refusal, line_dumps, line_report, report_of, step_line, world_of}
 use Rattle.script_report.proofs.Reports.{dumps-more, next_answers, refusal-more, report-more, world-more}

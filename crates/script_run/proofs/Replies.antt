@@ -1,19 +1,13 @@
 -- A line that was answered: its dump was written and its reply was put, or one of the two stopped.
-use Rattle.std.proofs.Common.{◌≡◌, ◌≢◌, inl, inr, ℕ, Bool, false, List, [], ◌∷◌, ◌++◌, Option, None, Some, Result, Ok, Err, MatchResult, refl, sym, ◌∙◌, ap, subst}
-use Rattle.std.specs.Prelude.{codes, decimal}
+use Rattle.std.proofs.Common.{◌≡◌, ◌≢◌, inr, ℕ, Bool, List, [], Result, Ok, Err, MatchResult, refl, sym, subst}
 use Rattle.ah_outside.specs.Outside.{FaultRose, Gained, GainedPrefix}
-use Rattle.heap_world.specs.declared.reply.Reply.{Reply}
-use Rattle.heap_world.specs.Effect.{is_refusal}
 use Rattle.heap_world.specs.Run.{Answer}
 use Rattle.hprof_write.specs.declared.error.DumpError.{DumpError}
 use Rattle.hprof_write.specs.declared.error.DumpError.TheVariants.{ShelfFault, OutOfMemory}
 use Rattle.job_status.specs.declared.stop.Stop.{Stop}
 use Rattle.job_status.specs.declared.stop.Stop.TheVariants.{Write}
 use Rattle.plain_machine.specs.Worlds.{StandsFor}
-use Rattle.job_status.proofs.Outside.{Gained-none}
-use Rattle.script_lang.specs.Texts.{reply_line, reply_words}
 use Rattle.script_report.specs.Report.{LineDone, has_refusal, report_of, with_answer}
-use Rattle.script_report.proofs.Reports.{has_refusal-one, report_of-one}
 use Rattle.script_run.specs.Dumps.{HasShelved, StoppedShelving}
 use Rattle.script_run.specs.Outside.{Output}
 use Rattle.script_run.specs.Progress.{RanLine, StoppedLine, dump_stop}
@@ -22,7 +16,7 @@ module _ (time n : ℕ) (d : LineDone) (old new : Output) (stands : StandsFor ne
   -- the dump was written, and then the reply was put, or stopped
   pub put_behind : (given : List Answer) (r : Result Bool Stop) → given ≡ with_answer n d.reply [] → HasShelved time d.dumps old.shelved new.shelved
       → MatchResult r (λ refused. Gained old.gained (report_of given) new.gained × (has_refusal given ≡ refused))
-          (λ stop. (stop ≡ Write) × (report_of given ≢ []) × GainedPrefix old.gained (report_of given) new.gained × FaultRose old.write_faults new.write_faults)
+      (λ stop. (stop ≡ Write) × (report_of given ≢ []) × GainedPrefix old.gained (report_of given) new.gained × FaultRose old.write_faults new.write_faults)
       → MatchResult r (λ refused. RanLine time n d refused old new) (λ stop. StoppedLine stop time n d old new)
   put_behind given (Ok refused) is shelved put = record {
     report = subst (λ (xs : List Answer). Gained old.gained (report_of xs) new.gained) is put.0;
@@ -46,9 +40,12 @@ module _ (time n : ℕ) (d : LineDone) (old new : Output) (stands : StandsFor ne
   -- the dump was written in part
   pub stops_dumping : (e : DumpError) → StoppedShelving time d.dumps old.shelved new.shelved → (e ≡ ShelfFault → FaultRose old.shelf_faults new.shelf_faults)
       → new.gained ≡ old.gained → StoppedLine (dump_stop e) time n d old new
-  stops_dumping ShelfFault part rose same = (record {
-    asked = λ none. let one = part.1 in cc (none, one);
-    put = record { report = same; dumps = inr part };
-    stands = stands;
-  }, rose refl)
+  stops_dumping ShelfFault part rose same = (
+    record {
+      asked = λ none. let one = part.1 in cc (none, one);
+      put = record { report = same; dumps = inr part };
+      stands = stands;
+    },
+    rose refl,
+  )
   stops_dumping OutOfMemory part rose same = record { report = same; dumps = inr part }

@@ -10,7 +10,7 @@ use Rattle.script_report.specs.Report.{answers, answers_of, dumps_of, has_refusa
 use Rattle.job_status.specs.Inputs.{NothingLeft}
 use Rattle.job_status.specs.declared.status.Status.{Status}
 use Rattle.job_status.specs.declared.status.Status.TheVariants as status
-use Rattle.script_run.specs.Dumps.{HasShelved, HasShelvedBut, StoppedShelving}
+use Rattle.script_run.specs.Dumps.{HasShelved, HasShelvedBut}
 use Rattle.script_run.specs.Outside.{Outside, Output, Setting}
 
 -- the answers of a job that was neither refused for its words nor stopped by a fault or by its input's length

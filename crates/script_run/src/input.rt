@@ -9,8 +9,8 @@ ghost use Rattle.job_status.specs.Status.{stop_status};
 
 use crate::Machine;
 use crate::piece::run_piece;
-use job_status::Stop;
 use ah_outside::{Shelf, Sink, Source};
+use job_status::Stop;
 use model_numbers::PIECE_BYTES;
 use script_lang::LineFeed;
 use std::alloc::Global;
@@ -57,7 +57,15 @@ fn take_piece<S: Source, W: Sink, F: Shelf>(
     };
     let taken = &buf[..count];
     let within = taken.len().min(run.room);
-    run.refused |= run_piece(alloc, &taken[..within], &mut run.feed, time, sink, shelf, machine)?;
+    run.refused |= run_piece(
+        alloc,
+        &taken[..within],
+        &mut run.feed,
+        time,
+        sink,
+        shelf,
+        machine,
+    )?;
     if within < taken.len() {
         return Err(Stop::TooLong);
     }

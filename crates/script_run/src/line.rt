@@ -15,9 +15,9 @@ ghost use Rattle.script_run.specs.Progress.{dump_stop, HasRunLines, RanLine, Sto
 
 use crate::Machine;
 use crate::dumped::{Dumped, add_entries, dumped_by};
-use job_status::Stop;
 use ah_outside::{Failed, Shelf, Sink, put_all};
 use hprof_write::DumpError;
+use job_status::Stop;
 use model_numbers::LINE_LIMIT;
 use script_lang::{Fed, LineError, LineFeed, Refusal, Reply, read_line, reply_text};
 use std::alloc::{AllocError, Global};

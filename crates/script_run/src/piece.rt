@@ -5,8 +5,8 @@ ghost use Rattle.script_run.specs.Progress.{HasRun, StoppedIn};
 
 use crate::Machine;
 use crate::line::run_line;
-use job_status::Stop;
 use ah_outside::{Shelf, Sink};
+use job_status::Stop;
 use script_lang::LineFeed;
 use std::alloc::Global;
 

@@ -1,6 +1,6 @@
 use Rattle.std.proofs.Common.{refl}
 use Rattle.std.proofs.lemmas.Result.{err_from_is_err_and}
-use Rattle.ah_outside.specs.Outside.{Entry, Shelved}
+use Rattle.ah_outside.specs.Outside.{Entry}
 use Rattle.plain_dumps.specs.Addresses.{addresses}
 use Rattle.script_report.specs.Dumps.{Dumping}
 use Rattle.script_run.specs.Dumps.{map_entry}

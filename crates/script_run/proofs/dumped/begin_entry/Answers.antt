@@ -1,6 +1,5 @@
-use Rattle.std.proofs.Common.{List, ℕ, subst, ◌∙◌, ◌⊎◌}
-use Rattle.std.proofs.lemmas.Result.{err_from_is_err_and}
-use Rattle.ah_outside.specs.Outside.{Begun, Shelved}
+use Rattle.std.proofs.Common.{List, ℕ, subst, ◌∙◌}
+use Rattle.ah_outside.specs.Outside.{Begun}
 use Rattle.script_run.proofs.dumped.begin_entry.Goals as goal
 
 pub returns-clause-done : goal.returns-clause-done

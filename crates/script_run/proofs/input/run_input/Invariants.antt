@@ -1,4 +1,4 @@
-use Rattle.std.proofs.Common.{◌≡◌, ℕ, ◌≤◌, false, length}
+use Rattle.std.proofs.Common.{◌≡◌, ◌≤◌, false, length}
 use Rattle.model_numbers.specs.Numbers.{input_limit, piece_bytes}
 use Rattle.script_run.specs.Outside.{Outside, Setting, outside_of, output_of}
 use Rattle.script_run.specs.Progress.{HasTaken, IsGoing}

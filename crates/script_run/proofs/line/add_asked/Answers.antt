@@ -1,4 +1,4 @@
-use Rattle.std.proofs.Common.{◌≡◌, [], ◌∷◌, List, Some, None, ap, subst, sym}
+use Rattle.std.proofs.Common.{◌≡◌, [], List, subst, sym}
 use Rattle.std.proofs.lemmas.Result.{MatchResult-weaker}
 use Rattle.ah_outside.specs.Outside.{Shelved}
 use Rattle.script_report.specs.Dumps.{Dumping}

@@ -1,5 +1,4 @@
-use Rattle.std.proofs.Common.{◌≡◌, ℕ, [], List, ◌∙◌, ap, refl, subst, sym}
-use Rattle.std.proofs.lemmas.Result.{err_from_is_err_and}
+use Rattle.std.proofs.Common.{[], List, ◌∙◌, ap, refl, subst, sym}
 use Rattle.heap_world.specs.Run.{Answer}
 use Rattle.script_lang.specs.FedLines.{fed_line}
 use Rattle.script_report.specs.Report.{LineDone, step_line, with_answer}

@@ -1,9 +1,8 @@
-use Rattle.std.proofs.Common.{◌≡◌, ◌≤◌, ℕ, List, Ok, Some, length, ap, arith, subst, sym, ◌∙◌}
+use Rattle.std.proofs.Common.{◌≡◌, ◌≤◌, ℕ, List, length, ap, arith, subst, sym, ◌∙◌}
 use Rattle.heap_world.specs.World.{step}
 use Rattle.model_numbers.specs.Numbers.{line_limit}
 use Rattle.script_lang.specs.FedLines.{fed_line}
 use Rattle.script_lang.specs.Feeding.{FedLine, kept_line}
-use Rattle.script_lang.specs.Grammar.{line_meaning}
 use Rattle.script_report.specs.Report.{step_line}
 use Rattle.script_run.specs.Dumps.{IsAsked, dumped_by}
 use Rattle.script_run.proofs.Steps.{asked_read}

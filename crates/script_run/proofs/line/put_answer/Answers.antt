@@ -1,1 +1,0 @@
-use Rattle.script_run.proofs.line.put_answer.Goals as goal
