@@ -15,7 +15,7 @@ use ah_outside::{Failed, Sink};
 use job_status::Stop;
 use script_lang::Fed;
 use script_make::{MakeState, boot_line, line_of};
-use script_run::step_line;
+use script_run::reply_to;
 use std::alloc::{AllocError, Global};
 
 /// Runs the line behind those that were counted, and counts it.
@@ -37,8 +37,8 @@ fn run_line(
         number: tally.lines + 1,
         bytes: line,
     };
-    let answered = step_line(alloc, machine, &fed)?;
-    tally.count(answered.reply);
+    let reply = reply_to(alloc, machine, &fed)?;
+    tally.count(reply);
     Ok(())
 }
 

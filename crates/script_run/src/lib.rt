@@ -8,7 +8,6 @@ mod line;
 mod piece;
 mod script;
 
-pub use dumped::Dumped;
-pub use line::{Answered, step_line};
+pub use line::reply_to;
 pub use plain_machine::Machine;
 pub use script::run_script;

@@ -24,7 +24,7 @@ use std::alloc::{AllocError, Global};
 
 /// What a line came to: its reply, if it has one, and the dump that it asks for, if it asks for one.
 #[derive(Clone, Copy)]
-pub struct Answered {
+pub(crate) struct Answered {
     pub reply: Option<Reply>,
     pub dumped: Option<Dumped>,
 }
@@ -42,11 +42,7 @@ impl Answered {
 }
 
 /// Reads a line that came and runs its command, and gives what it came to. The dump that it asks for isn't written yet.
-pub fn step_line(
-    alloc: Global,
-    machine: &mut Machine,
-    fed: &Fed<'_>,
-) -> Result<Answered, AllocError>
+fn step_line(alloc: Global, machine: &mut Machine, fed: &Fed<'_>) -> Result<Answered, AllocError>
     ensures reply { (w : World) (line : List ℕ) → StandsFor machine.old w → (fed_line fed.now).kept ≡ kept_line line →
         IfOk result (λ answered. answered.reply ≡ (step_line w (fed_line fed.now).number line).reply) }
     ensures dumped { (w : World) (line : List ℕ) → StandsFor machine.old w → (fed_line fed.now).kept ≡ kept_line line →
@@ -73,6 +69,21 @@ pub fn step_line(
         Err(LineError::Bad) => Ok(Answered::told(Some(Reply::Refused(Refusal::BadLine)))),
         Err(LineError::OutOfMemory) => Err(AllocError),
     }
+}
+
+/// Reads a line that came and runs its command, and gives its reply, if it has one. A dump that it asks for isn't written.
+pub fn reply_to(
+    alloc: Global,
+    machine: &mut Machine,
+    fed: &Fed<'_>,
+) -> Result<Option<Reply>, AllocError>
+    ensures reply { (w : World) (line : List ℕ) → StandsFor machine.old w → (fed_line fed.now).kept ≡ kept_line line →
+        IfOk result (λ reply. reply ≡ (step_line w (fed_line fed.now).number line).reply) }
+    ensures world { (w : World) (line : List ℕ) → StandsFor machine.old w → (fed_line fed.now).kept ≡ kept_line line →
+        OnOk result (StandsFor machine.new (step_line w (fed_line fed.now).number line).world) }
+{
+    let answered = step_line(alloc, machine, fed)?;
+    Ok(answered.reply)
 }
 
 /// The number of a line that came.

@@ -9,5 +9,5 @@ returns-clause-done c = λ budget before had.
     let line = c.args.line.now in
     let w = world_of budget before in
     rw c.count.ensures.counted
-    (soaks_behind budget before line (t.lines + 1) c.in_ok-answered.answered.reply t c.args.machine.now c.step_line.new.machine had refl
-    (c.in_ok-answered.ensures.reply w line had.stands refl) (c.in_ok-answered.ensures.world w line had.stands refl))
+    (soaks_behind budget before line (t.lines + 1) c.in_ok-reply.reply t c.args.machine.now c.reply_to.new.machine had refl
+    (c.in_ok-reply.ensures.reply w line had.stands refl) (c.in_ok-reply.ensures.world w line had.stands refl))
