@@ -82,8 +82,10 @@ pub fn reply_to(
     ensures world { (w : World) (line : List ℕ) → StandsFor machine.old w → (fed_line fed.now).kept ≡ kept_line line →
         OnOk result (StandsFor machine.new (step_line w (fed_line fed.now).number line).world) }
 {
-    let answered = step_line(alloc, machine, fed)?;
-    Ok(answered.reply)
+    match step_line(alloc, machine, fed) {
+        Ok(answered) => Ok(answered.reply),
+        Err(error) => Err(error),
+    }
 }
 
 /// The number of a line that came.
