@@ -1,7 +1,7 @@
 ghost use Rattle.std.specs.Prelude.{◌≡◌, ◌≤◌, map, string_bytes, IfSome};
 ghost use Rattle.std.specs.Option.{option_copied};
 ghost use Rattle.model_numbers.specs.Numbers.{most_regions};
-ghost use Rattle.artheap_top.specs.Words.{IsPossible, job_of, number_within, option_regions, read_of, run_of, soak_job, soak_of};
+ghost use Rattle.artheap_top.specs.Words.{IsPossible, job_of, number_within, option_regions, option_time, read_of, run_job, run_of, soak_job, soak_of};
 
 use model_numbers::{DEFAULT_REGIONS, MOST_REGIONS};
 use script_lang::{read_count, read_unsigned};

@@ -16,7 +16,7 @@ returns-in-Some-Run-clause-run_complete g c = λ _ _ _ few reads puts shelvings.
     let shelvings_ = g.F.Shelf.fault_count in
     let run = c.run_script.new in
     let old : Outside = outside_of (left c.args.source.now) (reads_ c.args.source.now)
-        (output_of (told c.args.sink.now) (puts_ c.args.sink.now) (shelved_ c.args.shelf.now) (shelvings_ c.args.shelf.now) c.args.machine.now) in
+    (output_of (told c.args.sink.now) (puts_ c.args.sink.now) (shelved_ c.args.shelf.now) (shelvings_ c.args.shelf.now) c.args.machine.now) in
     let new : Outside = outside_of (left run.source) (reads_ run.source) (output_of (told run.sink) (puts_ run.sink) (shelved_ run.shelf) (shelvings_ run.shelf) run.machine) in
     run_completes s c.job_status.result old new (subst (λ x. EndedRun s x old new) (sym c.job_status.ensures) c.run_script.ensures.ended) few reads puts shelvings
 
