@@ -1,0 +1,12 @@
+pub mod ListParts
+pub mod Values
+pub mod Segs
+pub mod HeapParts
+pub mod Texts
+pub mod Numbered
+pub mod DumpedParts
+pub mod Chains
+pub mod Fields
+pub mod Once
+pub mod Whole
+pub mod Same

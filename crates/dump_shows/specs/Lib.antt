@@ -1,0 +1,4 @@
+pub mod Examples
+pub mod Reading
+pub mod Same
+pub mod Shows
