@@ -175,6 +175,18 @@ fn each_put_may_fail(rt: HostRuntime) -> Result<(), Fail> {
 }
 
 #[test]
+fn no_entry_can_be_begun(rt: HostRuntime) -> Result<(), Fail> {
+    let asked = Request {
+        shelvings: &[1],
+        ..Request::sound(&["run"], b"zygote seal\nzygote dump\n")
+    };
+    let called = call(rt.alloc(), &asked)?;
+    ends(&rt, &called, Status::ShelfFault, b"1: ok\n");
+    shelves(&rt, &called, &[]);
+    Ok(())
+}
+
+#[test]
 fn each_call_of_the_shelf_may_fail(rt: HostRuntime) -> Result<(), Fail> {
     for call in 1..=50u64 {
         let called = run_with(rt.alloc(), &[], &[], &[call])?;
