@@ -99,18 +99,27 @@ fn report_of(alloc: Global, lines: usize) -> Result<Vec<u8>, AllocError> {
     Ok(report)
 }
 
-/// An object stands at this address in a process.
+/// An object of a process stands at this address.
 fn stands(
     rt: &impl Abort,
     alloc: Global,
     called: &Called,
-    object: (&[u8], u32),
+    process: &Name,
+    number: u32,
     wanted: Option<u32>,
 ) -> Result<(), AllocError> {
-    let name = Name::of(object.0).unwrap();
-    let at = address(alloc, &called.machine, &name, object.1)?;
+    let at = address(alloc, &called.machine, process, number)?;
     holds(rt, at.map(|at| at.0) == wanted);
     Ok(())
+}
+
+/// The shelf has both entries of the dump, or none.
+fn shelves_all_or_none(rt: &impl Abort, called: &Called, all: bool) {
+    if all {
+        shelves(rt, called, &FORKED_ENTRIES);
+    } else {
+        shelves(rt, called, &[]);
+    }
 }
 
 /// The machine of a call stands as after the first lines.
@@ -124,9 +133,11 @@ fn stands_after(
     for step in STEPS.iter().take(lines) {
         addresses = step.addresses;
     }
-    stands(rt, alloc, called, (b"zygote", 1), addresses[0])?;
-    stands(rt, alloc, called, (b"zygote", 2), addresses[1])?;
-    stands(rt, alloc, called, (b"c1", 3), addresses[2])
+    let zygote = Name::of(b"zygote").unwrap();
+    let child = Name::of(b"c1").unwrap();
+    stands(rt, alloc, called, &zygote, 1, addresses[0])?;
+    stands(rt, alloc, called, &zygote, 2, addresses[1])?;
+    stands(rt, alloc, called, &child, 3, addresses[2])
 }
 
 /// How many lines have their line feed within the first bytes.
@@ -142,12 +153,7 @@ fn each_take_may_fail(rt: HostRuntime) -> Result<(), Fail> {
         let lines = lines_within(before * PIECE);
         let report = report_of(rt.alloc(), lines)?;
         ends(&rt, &called, Status::ReadFault, &report);
-        let entries = if lines == STEPS.len() {
-            FORKED_ENTRIES.as_slice()
-        } else {
-            &[]
-        };
-        shelves(&rt, &called, entries);
+        shelves_all_or_none(&rt, &called, lines == STEPS.len());
         stands_after(&rt, rt.alloc(), &called, lines)?;
     }
     let called = run_with(rt.alloc(), &[8], &[], &[])?;
@@ -161,12 +167,7 @@ fn each_put_may_fail(rt: HostRuntime) -> Result<(), Fail> {
         let called = run_with(rt.alloc(), &[], &[put], &[])?;
         let report = report_of(rt.alloc(), before)?;
         ends(&rt, &called, Status::WriteFault, &report);
-        let entries = if put == 8 {
-            FORKED_ENTRIES.as_slice()
-        } else {
-            &[]
-        };
-        shelves(&rt, &called, entries);
+        shelves_all_or_none(&rt, &called, put == 8);
         stands_after(&rt, rt.alloc(), &called, before + 1)?;
     }
     let called = run_with(rt.alloc(), &[], &[9], &[])?;
