@@ -150,7 +150,7 @@ fn each_take_may_fail(rt: HostRuntime) -> Result<(), Fail> {
     // six takes give the whole script, and the seventh its end
     for (before, take) in (1..=7u64).enumerate() {
         let called = run_with(rt.alloc(), &[take], &[], &[])?;
-        let lines = lines_within(before * PIECE);
+        let lines = lines_within(before.saturating_mul(PIECE));
         let report = report_of(rt.alloc(), lines)?;
         ends(&rt, &called, Status::ReadFault, &report);
         shelves_all_or_none(&rt, &called, lines == STEPS.len());
