@@ -29,7 +29,7 @@ few-alone v few (a ∷ rest) less = tt
 
 few-one : {A : Type 0} (f : List ℕ → Option A) (v : A → Verb) → ((a : A) → HasFewFields (v a)) → IsFew (one f v)
 few-one f v few [] less = tt
-few-one f v few (a ∷ []) less = by (f a)
+few-one {A = A} f v few (a ∷ []) less = by (f a)
   where
     by : (o : Option A) → Few (asked_one v o)
     by None = tt
@@ -39,7 +39,7 @@ few-one f v few (a ∷ b ∷ rest) less = tt
 few-two : {A B : Type 0} (f : List ℕ → Option A) (g : List ℕ → Option B) (v : A → B → Verb) → ((a : A) (b : B) → HasFewFields (v a b)) → IsFew (two f g v)
 few-two f g v few [] less = tt
 few-two f g v few (a ∷ []) less = tt
-few-two f g v few (a ∷ b ∷ []) less = by (f a) (g b)
+few-two {A = A} {B = B} f g v few (a ∷ b ∷ []) less = by (f a) (g b)
   where
     by : (o : Option A) (p : Option B) → Few (asked_two v o p)
     by None p = tt
@@ -73,11 +73,11 @@ AreFew es = AllByRecursion (λ e. IsFew e.meaning) es
 
 few-before : (es fs : List Entry) (word : List ℕ) (args : List (List ℕ)) → AreFew es → length args ≤ line_limit → Few (verb_in fs word args) → Few (verb_in (es ++ fs) word args)
 few-before [] fs word args fine less rest = rest
-few-before (e ∷ es) fs word args fine less rest = by (same_name word e.word)
+few-before (e ∷ es) fs word args fine less rest = by (same_name word e.word) (few-before es fs word args fine.1 less rest)
   where
-    by : (b : Bool) → Few (cond b (e.meaning args) (verb_in (es ++ fs) word args))
-    by true = fine.0 args less
-    by false = few-before es fs word args fine.1 less rest
+    by : (b : Bool) → Few (verb_in (es ++ fs) word args) → Few (cond b (e.meaning args) (verb_in (es ++ fs) word args))
+    by true later = fine.0 args less
+    by false later = later
 
 few-doing : AreFew doing_entries
 few-doing = (few-alone verb.Seal tt, (few-alone verb.Gc tt, (few-alone verb.Exit tt, (few-alone verb.Dump tt, tt))))

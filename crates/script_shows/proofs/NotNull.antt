@@ -9,18 +9,20 @@ use Rattle.heap_graph.specs.Graph.{Graph, Object, is_young, size_of_object}
 use Rattle.heap_graph.specs.Packing.{after, place, places_from}
 use Rattle.heap_graph.specs.Table.{Fits, IsPlacedAt}
 use Rattle.heap_world.specs.Formed.{IsFormed}
-use Rattle.address_table.proofs.Packed.{packing_from}
 use Rattle.plain_view.specs.Viewed.{first_table}
 use Rattle.plain_view.proofs.Shown.{first-fits, first-not-null}
 
+-- the numbers of objects with their places, where they are packed from an end on
+abbrev packed_from : List Class → ℕ → List Object → List (ℕ × ℕ)
+packed_from cs end os = zip (map (λ o. o.number) os) (places_from end (map (size_of_object cs) os))
+
 -- a young object has a packing place
-packed : (cs : List Class) (end : ℕ) (os : List Object) (o : Object) → IsIn o os → is_young o.place ≡ true → (p : ℕ) × IsIn (o.number, p) (packing_from cs end os)
+packed : (cs : List Class) (end : ℕ) (os : List Object) (o : Object) → IsIn o os → is_young o.place ≡ true → (p : ℕ) × IsIn (o.number, p) (packed_from cs end (filter (λ x. is_young x.place) os))
 packed cs end [] o none young = absurd none
 packed cs end (x ∷ os) o there young = by (is_young x.place) refl there (λ later rest. packed cs later os o rest young)
   where
-    by : (b : Bool) → is_young x.place ≡ b → (x ≡ o) ⊎ IsIn o os → ((later : ℕ) → IsIn o os → (p : ℕ) × IsIn (o.number, p) (packing_from cs later os))
-        → (p : ℕ) × IsIn (o.number, p) (zip (map (λ y. y.number) (cond b (x ∷ filter (λ y. is_young y.place) os) (filter (λ y. is_young y.place) os)))
-        (places_from end (map (size_of_object cs) (cond b (x ∷ filter (λ y. is_young y.place) os) (filter (λ y. is_young y.place) os)))))
+    by : (b : Bool) → is_young x.place ≡ b → (x ≡ o) ⊎ IsIn o os → ((later : ℕ) → IsIn o os → (p : ℕ) × IsIn (o.number, p) (packed_from cs later (filter (λ y. is_young y.place) os)))
+        → (p : ℕ) × IsIn (o.number, p) (packed_from cs end (cond b (x ∷ filter (λ y. is_young y.place) os) (filter (λ y. is_young y.place) os)))
     by true is (inl same) rest = (place end (size_of_object cs x), inl (ap (λ (y : Object). (y.number, place end (size_of_object cs x))) same))
     by true is (inr later) rest = let (p, h) = rest (after end (size_of_object cs x)) later in (p, inr h)
     by false is (inl same) rest = absurd (true≢false (sym young ∙ ap (λ (y : Object). is_young y.place) (sym same) ∙ is))
