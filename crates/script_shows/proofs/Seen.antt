@@ -1,7 +1,6 @@
 -- A formed graph under a table that fits is what a dump sees of a heap.
 use Rattle.std.proofs.Common.{ℕ, refl}
-use Rattle.class_layout.specs.Placing.{IsIn}
-use Rattle.heap_graph.specs.Graph.{Graph, Object}
+use Rattle.heap_graph.specs.Graph.{Graph}
 use Rattle.heap_graph.specs.Table.{Fits}
 use Rattle.heap_world.specs.Formed.{IsFormed}
 use Rattle.object_view.specs.Seen.{IsShown}
