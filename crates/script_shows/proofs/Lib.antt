@@ -1,0 +1,4 @@
+pub mod Dumped
+pub mod Few
+pub mod NotNull
+pub mod Seen
