@@ -114,6 +114,14 @@ module _ (cs : List Class) (v w : View) (raws : Raws) (h : HoldsRaws cs v raws) 
       let r : Raw = raws.raw from in
       raws-added to r free changes (h.known from there) (Stands-copied cs v w from to r.shape r.header r.values (h.stands from there) multiple space same)
 
+  -- bytes changed that no object has
+  pub raws-beside : (at size : ℕ) → IsFreeSpace cs raws at size → ChangesWithin v w at (at + size) → HoldsRaws cs w raws
+  raws-beside at size free changes = record {
+    known = h.known;
+    stands = λ a is. let r : Raw = raws.raw a in Stands-beside cs v w a at (at + size) r.shape r.header r.values (h.stands a is) changes (free a is);
+    apart = h.apart;
+  }
+
   -- nothing changed but the count of reads
   pub raws-seen : SameView v w → HoldsRaws cs w raws
   raws-seen same = record {
@@ -123,13 +131,17 @@ module _ (cs : List Class) (v w : View) (raws : Raws) (h : HoldsRaws cs v raws) 
   }
 
 -- an object is copied into bytes that no object has, and its header tells so
-pub raws-evacuated : (cs : List Class) (u v w : View) (raws : Raws) (from to : ℕ) → HoldsRaws cs u raws → raws.has from ≡ true → to % 8 ≡ 0 → to < 2 ^ 32 → (from ≡ to → ⊥)
-    → IsSpace v to (raw_size cs raws from) → IsFreeSpace cs raws to (raw_size cs raws from)
+pub raws-evacuated : (cs : List Class) (u v w : View) (raws : Raws) (from to : ℕ) → HoldsRaws cs u raws → raws.has from ≡ true → to % 8 ≡ 0
+    → IsSpace u to (raw_size cs raws from) → IsFreeSpace cs raws to (raw_size cs raws from)
     → HasBytes u v from to (raw_size cs raws from) → ChangesWithin u v to (to + raw_size cs raws from)
     → PutsNumber v w Int (from + 4) (lock_word (Forward (record { 0 = to }))) → HoldsRaws cs w (evacuated raws from to)
-raws-evacuated cs u v w raws from to h there multiple below ne space free same changes puts =
+raws-evacuated cs u v w raws from to h there multiple space free same changes puts =
+    let size : ℕ = raw_size cs raws from in
+    let bounds = size-bounds cs (raws.raw from).shape in
+    let below : to < 2 ^ 32 = omega (arith, space.below, bounds.0, bounds.1, bounds.2) in
+    let ne : from ≡ to → ⊥ = λ e. elim (free from there) [ inl x ↦ omega (arith, bounds.0, bounds.1, bounds.2) | inr x ↦ omega (arith, bounds.0, bounds.1, bounds.2) ] in
     let both : Raws = added raws to (raws.raw from) in
-    let mid : HoldsRaws cs v both = raws-copied cs u v raws h from to there multiple space free same changes in
+    let mid : HoldsRaws cs v both = raws-copied cs u v raws h from to there multiple (space-kept u v to size changes.mapped space) free same changes in
     let has : both.has from ≡ true = ap (λ b. nat_eq from to || b) there ∙ true-right (nat_eq from to) in
     let old : both.raw from ≡ raws.raw from = at-other (raws.raw from) (raws.raw from) from to (λ r. r ≡ raws.raw from) ne refl in
     subst (λ r. HoldsRaws cs w (changed both from (forwarded_raw r to))) old (raws-forwarded cs v w both mid from to has multiple below puts)
@@ -139,16 +151,17 @@ raws-evacuated cs u v w raws from to h there multiple below ne space free same c
     true-right false = refl
 
 -- the same, with the size as a number of its own
-pub raws-evacuated-by : (cs : List Class) (u v w : View) (raws : Raws) (from to size : ℕ) → HoldsRaws cs u raws → raws.has from ≡ true → raw_size cs raws from ≡ size → to % 8 ≡ 0 → 0 < size
-    → IsSpace u to size → (from + size ≤ to) ⊎ (to + size ≤ from) → IsFreeSpace cs raws to size
-    → HasBytes u v from to size → ChangesWithin u v to (to + size)
+pub raws-evacuated-by : (cs : List Class) (u v w : View) (raws : Raws) (from to size : ℕ) → HoldsRaws cs u raws → raws.has from ≡ true → raw_size cs raws from ≡ size → to % 8 ≡ 0
+    → IsSpace u to size → IsFreeSpace cs raws to size → HasBytes u v from to size → ChangesWithin u v to (to + size)
     → PutsNumber v w Int (from + 4) (lock_word (Forward (record { 0 = to }))) → HoldsRaws cs w (evacuated raws from to)
-raws-evacuated-by cs u v w raws from to size h there size_is multiple some space apart free same changes puts =
-    let below : to < 2 ^ 32 = omega (arith, space.below) in
-    let ne : from ≡ to → ⊥ = λ e. elim apart [ inl x ↦ omega arith | inr x ↦ omega arith ] in
+raws-evacuated-by cs u v w raws from to size h there size_is multiple space free same changes puts =
     subst (λ s. IsSpace u to s → IsFreeSpace cs raws to s → HasBytes u v from to s → ChangesWithin u v to (to + s) → HoldsRaws cs w (evacuated raws from to)) size_is
-    (λ space' free' same' changes'. raws-evacuated cs u v w raws from to h there multiple below ne (space-kept u v to (raw_size cs raws from) changes'.mapped space') free' same' changes' puts)
+    (λ space' free' same' changes'. raws-evacuated cs u v w raws from to h there multiple space' free' same' changes' puts)
     space free same changes
+
+-- an object whose copy was written, but whose header was not
+pub raws-unmoved : (cs : List Class) (u v w : View) (raws : Raws) (to size : ℕ) → HoldsRaws cs u raws → IsFreeSpace cs raws to size → ChangesWithin u v to (to + size) → SameView v w → HoldsRaws cs w raws
+raws-unmoved cs u v w raws to size h free changes same = raws-seen cs v w raws (raws-beside cs u v raws h to size free changes) same
 
 -- the same object stands
 pub same-stands : (cs : List Class) (v : View) (a : ℕ) (r s : Raw) → SameRaw cs r s → StandsRaw cs v a r → StandsRaw cs v a s

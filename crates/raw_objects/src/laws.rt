@@ -62,7 +62,7 @@ pub fn same_objects_are_held()
 /// Where the new address of its target was put into one reference, memory holds the objects with this reference turned
 /// too. None is turned before the first, and two tests that agree on the references turn the same ones.
 pub fn turned_references_are_held()
-    ensures one { (cs : List Class) (old new : View) (raws : Raws) (done : ℕ → Bool) (at target : ℕ) → HoldsRaws cs old (turned_where raws done) → IsSlotIn cs raws at target → done at ≡ false
+    ensures one { (cs : List Class) (old new : View) (raws : Raws) (done : ℕ → Bool) (at target : ℕ) → HoldsRaws cs old (turned_where raws done) → IsSlotIn cs raws at target
         → PutsNumber old new Kind.Ref at (number_of Kind.Ref (pos (goes raws target))) → HoldsRaws cs new (turned_where raws (λ b. nat_eq at b || done b)) }
     ensures none { (cs : List Class) (v : View) (raws : Raws) → HoldsRaws cs v raws → HoldsRaws cs v (turned_where raws (λ b. false)) }
     ensures agree { (cs : List Class) (v : View) (raws : Raws) (one other : ℕ → Bool) → HoldsRaws cs v (turned_where raws one)
@@ -80,7 +80,7 @@ pub fn kept_pages_compose()
 
 /// A change of some pages is a step that may change these, where the same pages are mapped and no flag of theirs is cleared.
 pub fn changed_pages_are_kept()
-    ensures { (old new : Memory) (t first n : ℕ) (may : ℕ → Bool) → ChangesPages old new t first n → IsSound new → ((q : ℕ) → is_mapped new t q ≡ is_mapped old t q)
+    ensures pages { (old new : Memory) (t first n : ℕ) (may : ℕ → Bool) → ChangesPages old new t first n → IsSound new → ((q : ℕ) → is_mapped new t q ≡ is_mapped old t q)
         → ((q : ℕ) → first ≤ q → q < first + n → IsTrue (is_written old t q) → IsTrue (is_written new t q))
         → ((q : ℕ) → first ≤ q → q < first + n → may q ≡ true) → Keeps old new t may }
     ensures reads { (old : Memory) (t n : ℕ) (may : ℕ → Bool) → Keeps old (record old { reads = n }) t may }

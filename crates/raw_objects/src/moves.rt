@@ -78,7 +78,7 @@ pub fn turn_slot(
     requires mapped { IsTrue (is_mapped frames.old t.0 (page_of at.0)) }
     requires readable { IsReadable (view_of frames.old t.0) target.0 }
     ensures held { OnOk result ((cs : List Class) (raws : Raws) (done : ℕ → Bool) → HoldsRaws cs (view_of frames.old t.0) (turned_where raws done) → IsSlotIn cs raws at.0 target.0
-        → done at.0 ≡ false → HoldsRaws cs (view_of frames.new t.0) (turned_where raws (λ b. nat_eq at.0 b || done b))) }
+        → HoldsRaws cs (view_of frames.new t.0) (turned_where raws (λ b. nat_eq at.0 b || done b))) }
     ensures err { OnErr result (frames.new ≡ frames.old) }
     ensures keeps { (may : ℕ → Bool) → may (page_of at.0) ≡ true → Keeps frames.old frames.new t.0 may }
     ensures reads { frames.new.reads ≡ frames.old.reads }
