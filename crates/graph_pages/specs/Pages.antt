@@ -12,7 +12,7 @@ use Rattle.heap_graph.specs.Sizes.{size_in}
 use Rattle.heap_world.specs.declared.names.PageName.{PageName}
 use Rattle.heap_world.specs.declared.names.PageName.TheVariants.{Image, Zygote, Large}
 use Rattle.address_table.specs.Computed.{table_of, Homes}
-use Rattle.graph_pages.specs.Holds.{HoldsGraph}
+use Rattle.graph_pages.specs.Holds.{HoldsGraph, IsBeside, SameTable}
 
 -- the object has bytes in the page
 abbrev pub has_bytes_in : List Class → (ℕ → ℕ) → ℕ → Object → Bool
@@ -30,6 +30,14 @@ pub record PagesHold (m : Memory) (t : ℕ) (homes : Homes) (g : Graph) : Type 0
 -- the graph with one object more, which is its newest
 abbrev pub with_object : Graph → Object → Graph
 with_object g o = record g { objects = g.objects ++ o ∷ [] }
+
+-- there is room for a new object at its computed address: its pages are mapped too, no byte of it is another object's, and
+-- the others stay where they are
+pub record HasRoomFor (m : Memory) (t : ℕ) (homes next : Homes) (g : Graph) (o : Object) : Type 0 where
+  pub objects : HoldsGraph g.classes (view_of m t) (table_of homes g) g.objects
+  pub stays : SameTable (table_of homes g) (table_of next (with_object g o)) g.objects
+  pub beside : IsBeside g.classes (table_of homes g) g.objects (table_of next (with_object g o) o.number) (size_in g.classes o.shape)
+  pub pages : (w : Window) → MapsWindow m t w g.classes (table_of next (with_object g o)) (with_object g o).objects
 
 -- the page of a page name
 abbrev pub page_named : (ℕ → ℕ) → PageName → ℕ

@@ -1,8 +1,7 @@
 //! Steps of a process over the graph that its pages hold.
-ghost use Rattle.std.specs.Prelude.{◌≡◌, ◌⊎◌, ◌≢◌, ◌++◌, ◌∷◌, [], ℕ, ◌+◌, ◌%◌, ◌<◌, ◌≤◌, Bool, true, IsTrue, IsOk, OnOk, OnErr};
+ghost use Rattle.std.specs.Prelude.{◌≡◌, ◌⊎◌, ◌≢◌, [], ℕ, ◌+◌, ◌%◌, ◌<◌, ◌≤◌, Bool, true, IsTrue, IsOk, OnOk, OnErr};
 ghost use Rattle.model_numbers.specs.Numbers.{number_limit};
 ghost use Rattle.class_layout.specs.declared.kind.FieldAt.{FieldAt};
-ghost use Rattle.cow_pages.specs.declared.address.Window.{Window};
 ghost use Rattle.cow_pages.specs.Address.{page_of};
 ghost use Rattle.cow_pages.specs.Memory.{HasOneSharer, IsSound};
 ghost use Rattle.cow_pages.specs.View.{view_of};
@@ -17,8 +16,7 @@ ghost use Rattle.object_view.specs.Seen.{seen_value, HasValue};
 ghost use Rattle.object_view.specs.Values.{is_value};
 ghost use Rattle.raw_objects.specs.Keeps.{Covers, Keeps};
 ghost use Rattle.address_table.specs.Computed.{table_of, Homes};
-ghost use Rattle.graph_pages.specs.Holds.{HoldsGraph, IsBeside, SameTable};
-ghost use Rattle.graph_pages.specs.Pages.{with_object, MapsWindow, PagesHold};
+ghost use Rattle.graph_pages.specs.Pages.{with_object, HasRoomFor, PagesHold};
 
 use class_layout::{Classes, Kind};
 use cow_pages::{Addr, Frames, TableNo};
@@ -63,11 +61,8 @@ pub fn add_to_graph(
     requires known { IsKnown classes.now shape }
     requires number { (1 ≤ number) × (number < number_limit) }
     requires space { IsSpace (view_of frames.old t.0) at.0 (size_in classes.now shape) }
-    ensures held { OnOk result ((g : Graph) (homes next : Homes) (o : Object) → IsFormed g → g.classes ≡ classes.now → HoldsGraph g.classes (view_of frames.old t.0) (table_of homes g) g.objects
-        → o.number ≡ number → o.shape ≡ shape → o.slots ≡ [] → table_of next (with_object g o) number ≡ at.0 → SameTable (table_of homes g) (table_of next (with_object g o)) g.objects
-        → IsBeside g.classes (table_of homes g) g.objects at.0 (size_in g.classes shape)
-        → HoldsGraph g.classes (view_of frames.new t.0) (table_of next (with_object g o)) (with_object g o).objects) }
-    ensures pages { (w : Window) (g : Graph) (homes : Homes) → MapsWindow frames.old t.0 w g.classes (table_of homes g) g.objects → MapsWindow frames.new t.0 w g.classes (table_of homes g) g.objects }
+    ensures held { OnOk result ((g : Graph) (homes next : Homes) (o : Object) → IsFormed g → g.classes ≡ classes.now → HasRoomFor frames.old t.0 homes next g o
+        → o.number ≡ number → o.shape ≡ shape → o.slots ≡ [] → table_of next (with_object g o) o.number ≡ at.0 → PagesHold frames.new t.0 next (with_object g o)) }
     ensures keeps { (may : ℕ → Bool) → Covers may at.0 (size_in classes.now shape) → Keeps frames.old frames.new t.0 may }
     ensures written { OnOk result (AreWritten frames.new t.0 (page_of at.0) (pages_in at.0 (at.0 + size_in classes.now shape))) }
     ensures reads { frames.new.reads ≡ frames.old.reads }
