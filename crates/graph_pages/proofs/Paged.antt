@@ -1,12 +1,16 @@
 -- The pages that are mapped for a graph.
-use Rattle.std.proofs.Common.{◌≡◌, ◌∙◌, ℕ, Bool, true, false, List, [], ◌∷◌, ◌++◌, refl, sym, ap}
-use Rattle.std.specs.Prelude.{nat_eq, ◌||◌}
+use Rattle.std.proofs.Common.{◌≡◌, ◌∙◌, ◌↔◌, ℕ, ◌+◌, ◌-◌, ◌*◌, ◌<◌, ◌≤◌, inl, inr, arith, Bool, true, false, List, [], ◌∷◌, ◌++◌, refl, sym, ap}
+use Rattle.std.specs.Prelude.{nat_le, ◌||◌}
 use Rattle.std.specs.List.{list_any}
+use Rattle.std.proofs.lemmas.Bool.{and_from, and_parts, cases_eq, leb-true, le-leb}
 use Rattle.std.proofs.lemmas.List.Folds.{list_any-append}
 use Rattle.class_layout.specs.ClassList.{Class}
 use Rattle.class_layout.specs.Placing.{IsIn}
 use Rattle.cow_pages.specs.declared.address.Window.{Window}
+use Rattle.cow_pages.specs.Address.{page_of}
 use Rattle.cow_pages.specs.Memory.{is_mapped, Memory}
+use Rattle.heap_graph.specs.Sizes.{size_in}
+use Rattle.object_view.proofs.Laid.{size-bounds}
 use Rattle.heap_graph.specs.declared.names.Stored.{Stored}
 use Rattle.heap_graph.specs.Graph.{Object}
 use Rattle.heap_world.specs.Acts.{stored_in, stored_in_if}
@@ -40,3 +44,22 @@ pages-grown old new t w cs table next os o maps same grows p inside =
     grows p ∙ ap (λ b. b || has_bytes_in cs next p o) (maps p inside ∙ sym (bytes-same cs table next p os same.numbers))
     ∙ ap (λ b. list_any (has_bytes_in cs next p) os || b) (sym (or-false (has_bytes_in cs next p o)))
     ∙ sym (list_any-append (has_bytes_in cs next p) os (o ∷ []))
+
+-- an object has a byte in each of its pages, and no byte in any other
+pub bytes-in : (cs : List Class) (table : ℕ → ℕ) (p : ℕ) (o : Object) → (has_bytes_in cs table p o ≡ true) ↔ ((i : ℕ) × (i < size_in cs o.shape) × (page_of (table o.number + i) ≡ p))
+bytes-in cs table p o = (byte, page)
+  where
+    bounds = size-bounds cs o.shape
+
+    byte : has_bytes_in cs table p o ≡ true → (i : ℕ) × (i < size_in cs o.shape) × (page_of (table o.number + i) ≡ p)
+    byte is =
+        let parts = and_parts (nat_le (page_of (table o.number)) p) (nat_le p (page_of (table o.number + size_in cs o.shape - 1))) is in
+        let low : page_of (table o.number) ≤ p = leb-true _ _ parts.0 in
+        let high : p ≤ page_of (table o.number + size_in cs o.shape - 1) = leb-true _ _ parts.1 in
+        elim (cases_eq p (page_of (table o.number))) [
+          | inl e ↦ (0, omega (arith, bounds.0, bounds.1, bounds.2), omega (arith, e))
+          | inr ne ↦ (p * 4096 - table o.number, omega (arith, low, high, ne, bounds.0, bounds.1, bounds.2), omega (arith, low, ne))
+        ]
+
+    page : (i : ℕ) × (i < size_in cs o.shape) × (page_of (table o.number + i) ≡ p) → has_bytes_in cs table p o ≡ true
+    page (i, lt, is) = and_from _ _ (le-leb _ _ (omega (arith, is))) (le-leb _ _ (omega (arith, lt, is)))

@@ -1,5 +1,5 @@
 //! Laws above the definitions: when memory holds a graph, and when it holds the graph after a step.
-ghost use Rattle.std.specs.Prelude.{◌≡◌, ◌≢◌, ◌⊎◌, ◌||◌, ◌++◌, ◌∷◌, [], ◌&&◌, nat_le, ℕ, ◌+◌, ◌-◌, ◌<◌, ◌≤◌, true, List, ℤ};
+ghost use Rattle.std.specs.Prelude.{◌≡◌, ◌≢◌, ◌↔◌, ◌||◌, ◌++◌, ◌∷◌, [], ℕ, ◌+◌, ◌<◌, true, List, ℤ};
 ghost use Rattle.class_layout.specs.declared.kind.Kind.{Kind};
 ghost use Rattle.class_layout.specs.ClassList.{Class};
 ghost use Rattle.class_layout.specs.Placing.{IsIn};
@@ -62,6 +62,11 @@ pub fn collected_graphs_stand()
 pub fn computed_addresses_stay()
     ensures stored { (homes : Homes) (g : Graph) (n k : ℕ) (s : Stored) → table_of homes (with_slot g n s) k ≡ table_of homes g k }
     ensures grown { (homes : Homes) (g : Graph) (o : Object) (k : ℕ) → k ≢ o.number → table_of homes (with_object g o) k ≡ table_of homes g k }
+{}
+
+/// An object has bytes in exactly the pages in which one of its bytes lies.
+pub fn pages_have_bytes()
+    ensures { (cs : List Class) (table : ℕ → ℕ) (p : ℕ) (o : Object) → (has_bytes_in cs table p o ≡ true) ↔ ((i : ℕ) × (i < size_in cs o.shape) × (page_of (table o.number + i) ≡ p)) }
 {}
 
 /// The pages that are mapped for a graph are mapped for it after a store. Those of a new object join them.

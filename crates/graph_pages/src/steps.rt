@@ -48,7 +48,7 @@ pub fn store_in_graph(
     store_value(frames, t, at, kind, offset, v)
 }
 
-/// Puts a new object beside those of a graph, into pages that are mapped for it.
+/// Puts a new object beside those of a graph, into pages that are mapped for it. After `AllocError` there is room for it as before.
 pub fn add_to_graph(
     frames: &mut Frames,
     classes: &Classes,
@@ -63,6 +63,8 @@ pub fn add_to_graph(
     requires space { IsSpace (view_of frames.old t.0) at.0 (size_in classes.now shape) }
     ensures held { OnOk result ((g : Graph) (homes next : Homes) (o : Object) → IsFormed g → g.classes ≡ classes.now → HasRoomFor frames.old t.0 homes next g o
         → o.number ≡ number → o.shape ≡ shape → o.slots ≡ [] → table_of next (with_object g o) o.number ≡ at.0 → PagesHold frames.new t.0 next (with_object g o)) }
+    ensures err { OnErr result ((g : Graph) (homes next : Homes) (o : Object) → IsFormed g → g.classes ≡ classes.now → HasRoomFor frames.old t.0 homes next g o
+        → o.shape ≡ shape → table_of next (with_object g o) o.number ≡ at.0 → HasRoomFor frames.new t.0 homes next g o) }
     ensures keeps { (may : ℕ → Bool) → Covers may at.0 (size_in classes.now shape) → Keeps frames.old frames.new t.0 may }
     ensures written { OnOk result (AreWritten frames.new t.0 (page_of at.0) (pages_in at.0 (at.0 + size_in classes.now shape))) }
     ensures reads { frames.new.reads ≡ frames.old.reads }
