@@ -7,3 +7,4 @@ pub mod Collects
 pub mod Computed
 pub mod Paged
 pub mod Held
+pub mod Named

@@ -1,5 +1,5 @@
 //! Laws above the definitions: when memory holds a graph, and when it holds the graph after a step.
-ghost use Rattle.std.specs.Prelude.{◌≡◌, ◌≢◌, ◌↔◌, ◌||◌, ◌++◌, ◌∷◌, [], ℕ, ◌+◌, ◌<◌, true, List, ℤ};
+ghost use Rattle.std.specs.Prelude.{◌≡◌, ◌≢◌, ◌↔◌, ◌||◌, ◌++◌, ◌∷◌, [], ℕ, ◌+◌, ◌<◌, true, IsTrue, List, ℤ};
 ghost use Rattle.class_layout.specs.declared.kind.Kind.{Kind};
 ghost use Rattle.class_layout.specs.ClassList.{Class};
 ghost use Rattle.class_layout.specs.Placing.{IsIn};
@@ -18,10 +18,12 @@ ghost use Rattle.object_view.specs.Objects.{IsKnown, IsPlace};
 ghost use Rattle.object_view.specs.Seen.{seen_value};
 ghost use Rattle.object_view.specs.Values.{number_of};
 ghost use Rattle.raw_objects.specs.Raws.{new_raw, HoldsRaws, Raws, StandsRaw};
-ghost use Rattle.address_table.specs.Computed.{table_of, Homes};
+ghost use Rattle.address_table.specs.Computed.{table_of, Homes, HouseAll};
 ghost use Rattle.graph_pages.specs.Collected.{AreTurned, Going};
 ghost use Rattle.graph_pages.specs.Holds.{raws_under, AreAmong, HoldsGraph, IsBeside, SameTable, TellsApart};
-ghost use Rattle.graph_pages.specs.Pages.{has_bytes_in, with_object, MapsWindow};
+ghost use Rattle.graph_pages.specs.Pages.{has_bytes_in, page_named, with_object, MapsWindow, PagesHold};
+ghost use Rattle.world_laws.specs.Named.{is_named};
+ghost use Rattle.heap_world.specs.declared.names.PageName.{PageName};
 
 /// A graph that is held is held as raw objects. Of raw objects that are held comes back each graph whose objects are
 /// among them, so those that were dropped cost nothing.
@@ -74,4 +76,12 @@ pub fn pages_follow_objects()
     ensures stored { (m : Memory) (t : ℕ) (w : Window) (cs : List Class) (table : ℕ → ℕ) (os : List Object) (n : ℕ) (s : Stored) → MapsWindow m t w cs table os → MapsWindow m t w cs table (stored_in os n s) }
     ensures grown { (old new : Memory) (t : ℕ) (w : Window) (cs : List Class) (table next : ℕ → ℕ) (os : List Object) (o : Object) → MapsWindow old t w cs table os → SameTable table next os
         → ((p : ℕ) → is_mapped new t p ≡ (is_mapped old t p || has_bytes_in cs next p o)) → MapsWindow new t w cs next (os ++ o ∷ []) }
+{}
+
+/// The pages of names, which stand or wait for a fork, are mapped, and different names have different pages.
+pub fn names_have_pages()
+    ensures differ { (homes : Homes) (g : Graph) (a b : PageName) → IsFormed g → HouseAll homes g → is_named g a ≡ true → is_named g b ≡ true
+        → page_named (table_of homes g) a ≡ page_named (table_of homes g) b → a ≡ b }
+    ensures mapped { (m : Memory) (t : ℕ) (homes : Homes) (g : Graph) (a : PageName) → IsFormed g → HouseAll homes g → PagesHold m t homes g → is_named g a ≡ true
+        → IsTrue (is_mapped m t (page_named (table_of homes g) a)) }
 {}

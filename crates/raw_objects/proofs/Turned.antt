@@ -23,7 +23,7 @@ use Rattle.object_view.proofs.Standing.{HasHeader-stands, HasShape-stands}
 use Rattle.object_view.proofs.Stores.{loaded}
 use Rattle.object_view.proofs.References.{references-each, references-none}
 use Rattle.raw_objects.specs.Raws.{Raw, Raws, HoldsRaws, SameRaw, SameRaws, stored, stored_raw}
-use Rattle.raw_objects.specs.References.{goes, in_regions, is_first_reference, is_reference, stands_at, turned, turned_raw, turned_where, IsReadable, IsSlotIn, IsTurnable}
+use Rattle.raw_objects.specs.References.{address_in, goes, in_regions, is_first_reference, is_reference, stands_at, turned, turned_raw, turned_where, IsReadable, IsSlotIn, IsTurnable}
 use Rattle.raw_objects.proofs.Raws.{at-here, at-other, raws-same, raws-seen, raws-stored}
 
 -- two tests that agree on the references turn the same ones
@@ -40,7 +40,7 @@ same-turned cs raws one other agree = record {
         elim (cases_Bool (is_ref p.kind)) [
           | inl e ↦ ap (λ b. cond b (turned raws p old) old) (sym (agree a p is within (ref-kind p.kind e)))
           | inr e ↦
-              let plain : turned raws p old ≡ old = ap (λ b. cond b (turned (record raws { has = raws.has }) (record p { kind = Ref }) old) old) e in
+              let plain : turned raws p old ≡ old = ap (λ b. cond b (pos (goes raws (address_in old))) old) e in
               either (other (a + p.offset)) (turned raws p old) old plain ∙ sym (either (one (a + p.offset)) (turned raws p old) old plain)
         ];
   };
