@@ -259,7 +259,8 @@ pub first-more : (cs : List Class) (v w : View) (raws : Raws) (done : ℕ → Bo
 first-more cs v w raws done at k slot it h =
     let shape : Shape = (raws.raw at).shape in
     subst (λ n. HoldsRaws cs w (turned_first cs raws done at n)) (sym (add-one k))
-    (raws-same cs w _ (turned_first cs raws done at (suc k)) h (same-turned cs raws _ _ (λ a p has within kind.
+    (raws-same cs w _ (turned_first cs raws done at (suc k)) h (same-turned cs raws
+    (λ b. nat_eq slot.at.0 b || (is_first_reference cs shape at k b || done b)) (λ b. is_first_reference cs shape at (suc k) b || done b) (λ a p has within kind.
         let b : ℕ = a + p.offset in
         ap (λ n. nat_eq n b || (is_first_reference cs shape at k b || done b)) it.at_is ∙ regroup (nat_eq (at + it.place.offset) b) (is_first_reference cs shape at k b) (done b)
         ∙ ap (λ o. (stands_at o at b || is_first_reference cs shape at k b) || done b) (sym it.is))))
@@ -270,7 +271,8 @@ pub first-last : (cs : List Class) (v : View) (raws : Raws) (done : ℕ → Bool
 first-last cs v raws done at k none h =
     let shape : Shape = (raws.raw at).shape in
     let past : reference_count cs shape ≤ k = elim (cases_lt k (reference_count cs shape)) [ inl lt ↦ absurd (let it = references-each cs shape k lt in none-some it.0 (sym none ∙ it.1)) | inr ge ↦ ge ] in
-    raws-same cs v _ _ h (same-turned cs raws _ _ (λ a p has within kind. ap (λ b. b || done (a + p.offset)) (first-all cs shape at k (a + p.offset) past)))
+    raws-same cs v _ _ h (same-turned cs raws (λ b. is_first_reference cs shape at k b || done b) (λ b. is_reference cs shape at b || done b)
+    (λ a p has within kind. ap (λ b. b || done (a + p.offset)) (first-all cs shape at k (a + p.offset) past)))
 
 -- references stand 4 bytes apart
 rises-by : (cs : List Class) (shape : Shape) (k : ℕ) (p : FieldAt) → reference_place cs shape k ≡ Some p → 4 * k ≤ p.offset

@@ -8,7 +8,7 @@ ghost use Rattle.object_view.specs.Changes.{pages_in, AreAlone};
 ghost use Rattle.object_view.specs.Objects.{IsSpace};
 ghost use Rattle.raw_objects.specs.Keeps.{Covers, Keeps};
 ghost use Rattle.raw_objects.specs.Raws.{evacuated, raw_size, HoldsRaws, IsFreeSpace, Raws};
-ghost use Rattle.raw_objects.specs.References.{goes, in_regions, is_reference, turned_where, IsReadable, IsSlotIn, IsTurnable};
+ghost use Rattle.raw_objects.specs.References.{goes, in_regions, is_first_reference, is_reference, turned_where, IsReadable, IsSlotIn, IsTurnable};
 
 use class_layout::{Classes, Kind};
 use cow_pages::{Addr, Frames, TableNo};
@@ -92,7 +92,7 @@ pub fn turn_slot(
     Ok(())
 }
 
-/// Turns all references of an object.
+/// Turns all references of an object, none of which is turned yet. After `AllocError` some first ones are turned.
 pub fn turn_object(
     frames: &mut Frames,
     classes: &Classes,
@@ -102,6 +102,8 @@ pub fn turn_object(
     requires { (raws : Raws) × (done : ℕ → Bool) × IsTurnable classes.now (view_of frames.old t.0) raws done at.0 }
     ensures held { OnOk result ((raws : Raws) (done : ℕ → Bool) → IsTurnable classes.now (view_of frames.old t.0) raws done at.0
         → HoldsRaws classes.now (view_of frames.new t.0) (turned_where raws (λ b. is_reference classes.now (raws.raw at.0).shape at.0 b || done b))) }
+    ensures err { OnErr result ((raws : Raws) (done : ℕ → Bool) → IsTurnable classes.now (view_of frames.old t.0) raws done at.0
+        → (k : ℕ) × HoldsRaws classes.now (view_of frames.new t.0) (turned_where raws (λ b. is_first_reference classes.now (raws.raw at.0).shape at.0 k b || done b))) }
     ensures keeps { (raws : Raws) (done may : ℕ → Bool) → IsTurnable classes.now (view_of frames.old t.0) raws done at.0 → Covers may at.0 (raw_size classes.now raws at.0)
         → Keeps frames.old frames.new t.0 may }
     ensures succeeds { (raws : Raws) (done : ℕ → Bool) → IsTurnable classes.now (view_of frames.old t.0) raws done at.0

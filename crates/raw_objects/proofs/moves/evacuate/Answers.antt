@@ -3,6 +3,7 @@ use Rattle.std.proofs.lemmas.Result.{on_err_weaker, on_ok_weaker}
 use Rattle.cow_pages.specs.Address.{page_of}
 use Rattle.cow_pages.specs.Memory.{Memory}
 use Rattle.cow_pages.specs.View.{view_of}
+use Rattle.object_view.proofs.Outcomes.{on_err}
 use Rattle.raw_objects.specs.Raws.{HoldsRaws}
 use Rattle.raw_objects.proofs.Kept.{keeps-put, keeps-then, keeps-words, object-page}
 use Rattle.raw_objects.proofs.Raws.{raws-beside, raws-evacuated-by}
@@ -20,7 +21,7 @@ returns-clause-held c =
     c.in_ok-copy_object.ensures.copied c.copy_object.ensures.bytes puts) c.set_forward.ensures.word
 
 pub returns-in_err-copy_object-clause-err : goal.returns-in_err-copy_object-clause-err
-returns-in_err-copy_object-clause-err c cs raws h free = raws-beside cs _ _ raws h c.args.to.0 c.args.size free c.copy_object.ensures.bytes
+returns-in_err-copy_object-clause-err c = on_err c.from_residual.result (λ cs raws h free. raws-beside cs _ _ raws h c.args.to.0 c.args.size free c.copy_object.ensures.bytes)
 
 pub returns-clause-err : goal.returns-clause-err
 returns-clause-err c =

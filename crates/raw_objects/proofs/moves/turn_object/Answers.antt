@@ -1,13 +1,14 @@
-use Rattle.std.proofs.Common.{◌≡◌, ◌∙◌, ◌+◌, ◌<◌, ◌≤◌, ◌-◌, ◌^◌, ℕ, true, refl, sym, ap, arith}
-use Rattle.std.specs.Prelude.{is_ok, IsOk}
+use Rattle.std.proofs.Common.{◌≡◌, ◌∙◌, ◌+◌, ◌<◌, ◌≤◌, ◌-◌, ◌^◌, ℕ, true, refl, sym, ap, subst, arith}
+use Rattle.std.specs.Prelude.{is_ok, IsOk, ◌||◌}
 use Rattle.std.proofs.lemmas.Bool.{true≢false}
 use Rattle.cow_pages.specs.Address.{page_of}
 use Rattle.cow_pages.specs.Memory.{Memory}
 use Rattle.cow_pages.specs.View.{view_of}
 use Rattle.object_view.specs.Changes.{pages_in}
 use Rattle.object_view.specs.Objects.{reference_place}
-use Rattle.object_view.proofs.Standing.{HasShape-stands}
-use Rattle.raw_objects.specs.Raws.{raw_size, Raw, Raws}
+use Rattle.object_view.proofs.Outcomes.{on_err}
+use Rattle.raw_objects.specs.Raws.{raw_size, HoldsRaws, Raws}
+use Rattle.raw_objects.specs.References.{is_first_reference}
 use Rattle.raw_objects.proofs.Kept.{covered, keeps-none, keeps-read, keeps-then, page-in, space-page}
 use Rattle.raw_objects.proofs.Turned.{first-last, first-more, no-slot, none-last, object-held, raws-read, slot-readable, turned_first, turning}
 use Rattle.raw_objects.proofs.moves.turn_object.Goals as goal
@@ -49,7 +50,7 @@ turn_slot-requires-clause-readable c =
     let h = c.loop-k.invariant.held raws c.requires.1 ok in
     let shape = (object-held cs _ now c.args.at.0 h ok.has).has_shape in
     let it = turning cs _ _ raws c.requires.1 c.args.at.0 c.loop-k.k c.in-Some.slot ok h (sym c.in-Some.is ∙ c.ref_slot.ensures.slot (raws.raw c.args.at.0).shape shape) in
-    slot-readable cs _ raws _ _ _ (raws-read cs _ _ c.args.t.0 _ now (c.ref_slot.ensures.reads (raws.raw c.args.at.0).shape shape) h) it.slot_in
+    slot-readable cs _ raws (λ b. is_first_reference cs (raws.raw c.args.at.0).shape c.args.at.0 c.loop-k.k b || c.requires.1 b) _ _ (raws-read cs _ _ c.args.t.0 _ now (c.ref_slot.ensures.reads (raws.raw c.args.at.0).shape shape) h) it.slot_in
 
 pub loop-k-preserved : goal.loop-k-preserved
 loop-k-preserved c =
@@ -63,7 +64,7 @@ loop-k-preserved c =
           let shape = (object-held cs _ now at h ok.has).has_shape in
           let it = turning cs _ _ raws done at c.loop-k.k c.in-Some.slot ok h (sym c.in-Some.is ∙ c.ref_slot.ensures.slot (raws.raw at).shape shape) in
           first-more cs _ _ raws done at c.loop-k.k c.in-Some.slot it
-          (c.in_ok-turn_slot.ensures.held cs raws _ (raws-read cs _ _ t _ now (c.ref_slot.ensures.reads (raws.raw at).shape shape) h) it.slot_in);
+          (c.in_ok-turn_slot.ensures.held cs raws (λ b. is_first_reference cs (raws.raw at).shape at c.loop-k.k b || done b) (raws-read cs _ _ t _ now (c.ref_slot.ensures.reads (raws.raw at).shape shape) h) it.slot_in);
       keeps = λ raws done may ok covers.
           let h = c.loop-k.invariant.held raws done ok in
           let shape = (object-held cs _ (turned_first cs raws done at c.loop-k.k) at h ok.has).has_shape in
@@ -129,3 +130,14 @@ returns-in_err-turn_slot-clause-succeeds c raws done ok alone =
     let is = space-page c.args.frames.now t at size (page_of c.in-Some.slot.at.0) stands.space (omega (arith, within)) low high in
     let done' : IsOk c.turn_slot.result = c.turn_slot.ensures.succeeds (keeps.alone (page_of c.in-Some.slot.at.0) is mine) in
     absurd (true≢false (sym done' ∙ ap (λ r. is_ok r) c.in_err-turn_slot.was))
+
+pub returns-in_err-turn_slot-clause-err : goal.returns-in_err-turn_slot-clause-err
+returns-in_err-turn_slot-clause-err c = on_err c.from_residual.result (λ raws done ok.
+    let cs = c.args.classes.now in
+    let t : ℕ = c.args.t.0 in
+    let at : ℕ = c.args.at.0 in
+    let now : Raws = turned_first cs raws done at c.loop-k.k in
+    let h = c.loop-k.invariant.held raws done ok in
+    let shape = (object-held cs _ now at h ok.has).has_shape in
+    let read : HoldsRaws cs (view_of c.ref_slot.new.frames t) now = raws-read cs _ _ t _ now (c.ref_slot.ensures.reads (raws.raw at).shape shape) h in
+    (c.loop-k.k, subst (λ (m : Memory). HoldsRaws cs (view_of m t) now) (sym c.in_err-turn_slot.ensures.err) read))
