@@ -37,14 +37,12 @@ module _ (homes : Homes) (cs : List Class) (k : ℕ) where
   table-stored n s end large [] = refl
   table-stored n s end large (o ∷ os) = by (nat_eq o.number n) (λ e l. table-stored n s e l os)
     where
-      abbrev behind : ℕ
-      behind = large_behind large o.place
-
       by : (b : Bool) → ((e l : ℕ) → table_from homes cs e l (stored_in os n s) k ≡ table_from homes cs e l os k)
           → table_from homes cs end large (stored_in_if b o s ∷ stored_in os n s) k ≡ table_from homes cs end large (o ∷ os) k
-      by false rest = ap (λ a. cond (nat_eq o.number k) (address_in homes cs end large o o.place) a) (rest (end_behind cs end o o.place) behind)
+      by false rest = ap (λ a. cond (nat_eq o.number k) (address_in homes cs end large o o.place) a) (rest (end_behind cs end o o.place) (large_behind large o.place))
       by true rest =
           let slots : List Stored = with_stored o.slots s in
+          let behind : ℕ = large_behind large o.place in
           ap (λ a. cond (nat_eq o.number k) a (table_from homes cs (end_behind cs end (record o { slots = slots }) o.place) behind (stored_in os n s) k)) (address-stored end large o slots o.place)
           ∙ ap (λ e. cond (nat_eq o.number k) (address_in homes cs end large o o.place) (table_from homes cs e behind (stored_in os n s) k)) (end-stored end o slots o.place)
           ∙ ap (λ a. cond (nat_eq o.number k) (address_in homes cs end large o o.place) a) (rest (end_behind cs end o o.place) behind)

@@ -36,7 +36,7 @@ abbrev Covered : List Class → (ℕ → Place) → ℕ → List Object → Type
 Covered cs at page os = (o : Object) × IsIn o os × (spot : ℕ) × (o.place ≡ at spot) × (i : ℕ) × (i < size_in cs o.shape) × (page_of (spot + i) ≡ page)
 
 later : (cs : List Class) (at : ℕ → Place) (page : ℕ) (o : Object) (os : List Object) → Covered cs at page os → Covered cs at page (o ∷ os)
-later cs at page o os (p, there, rest) = (p, inr there, rest)
+later cs at page o os it = (it.0, inr it.1, it.2, it.3, it.4, it.5, it.6)
 
 module _ (cs : List Class) (k : ℕ) where
   -- each page of the image's bytes has a byte of an object
@@ -173,14 +173,14 @@ module _ (homes : Homes) (g : Graph) (formed : IsFormed g) (house : HouseAll hom
       let lt : k < parts_for page_bytes (image_fill g) = ltb-true _ _ is in
       let it = cover-image g.classes k 0 g.objects formed.image (omega arith) (omega (arith, lt, fill-is g)) in
       let placed : table it.0.number ≡ it.2 = subst (λ at. IsPlacedAt at (table it.0.number)) it.3 ((fits homes g formed house).placed it.0 it.1) in
-      object-mapped m t window.Image (first_page window.Image + k) it.4 it.0 h it.1 it.5 (ap (λ a. page_of (a + it.4)) placed ∙ it.6) (in-window window.Image _ (omega arith) (let few = image-few k is in omega (arith, few)))
+      object-mapped m t window.Image (first_page window.Image + k) it.4 it.0 h it.1 it.5 (ap (λ a. page_of (a + it.4)) placed ∙ it.6) (in-window window.Image (first_page window.Image + k) (omega arith) (let few = image-few k is in omega (arith, few)))
   names-mapped m t (Zygote k) h is =
       let lt : k < parts_for page_bytes (zygote_fill g) = ltb-true _ _ is in
       let it = cover-zygote g.classes k 0 g.objects formed.zygote (omega arith) (omega (arith, lt, top-is g.classes g.objects formed.zygote)) in
       let placed : table it.0.number ≡ it.2 = subst (λ at. IsPlacedAt at (table it.0.number)) it.3 ((fits homes g formed house).placed it.0 it.1) in
-      object-mapped m t window.Zygote (first_page window.Zygote + k) it.4 it.0 h it.1 it.5 (ap (λ a. page_of (a + it.4)) placed ∙ it.6) (in-window window.Zygote _ (omega arith) (let few = zygote-few k is in omega (arith, few)))
+      object-mapped m t window.Zygote (first_page window.Zygote + k) it.4 it.0 h it.1 it.5 (ap (λ a. page_of (a + it.4)) placed ∙ it.6) (in-window window.Zygote (first_page window.Zygote + k) (omega arith) (let few = zygote-few k is in omega (arith, few)))
   names-mapped m t (Large n k) h is =
       let it = slot-page n k is in
       let bounds = size-bounds g.classes it.object.shape in
       object-mapped m t window.Large (page_of (table n) + k) (k * 4096) it.object h it.is_in (omega (arith, it.below, bounds.1)) (ap (λ a. page_of (table a + k * 4096)) it.number_is ∙ omega arith)
-      (in-window window.Large _ (omega (arith, it.at_is)) (omega (arith, it.at_is, it.few, it.small)))
+      (in-window window.Large (page_of (table n) + k) (omega (arith, it.at_is)) (omega (arith, it.at_is, it.few, it.small)))

@@ -1,6 +1,6 @@
 -- The pages that are mapped for a graph.
 use Rattle.std.proofs.Common.{◌≡◌, ◌∙◌, ◌↔◌, ℕ, ◌+◌, ◌-◌, ◌*◌, ◌<◌, ◌≤◌, inl, inr, arith, Bool, true, false, List, [], ◌∷◌, ◌++◌, refl, sym, ap}
-use Rattle.std.specs.Prelude.{nat_le, ◌||◌}
+use Rattle.std.specs.Prelude.{nat_eq, nat_le, ◌||◌}
 use Rattle.std.specs.List.{list_any}
 use Rattle.std.proofs.lemmas.Bool.{and_from, and_parts, cases_eq, leb-true, le-leb}
 use Rattle.std.proofs.lemmas.List.Folds.{list_any-append}
@@ -49,12 +49,11 @@ pages-grown old new t w cs table next os o maps same grows p inside =
 pub bytes-in : (cs : List Class) (table : ℕ → ℕ) (p : ℕ) (o : Object) → (has_bytes_in cs table p o ≡ true) ↔ ((i : ℕ) × (i < size_in cs o.shape) × (page_of (table o.number + i) ≡ p))
 bytes-in cs table p o = (byte, page)
   where
-    bounds = size-bounds cs o.shape
-
     byte : has_bytes_in cs table p o ≡ true → (i : ℕ) × (i < size_in cs o.shape) × (page_of (table o.number + i) ≡ p)
     byte is =
         let parts = and_parts (nat_le (page_of (table o.number)) p) (nat_le p (page_of (table o.number + size_in cs o.shape - 1))) is in
         let low : page_of (table o.number) ≤ p = leb-true _ _ parts.0 in
+        let bounds = size-bounds cs o.shape in
         let high : p ≤ page_of (table o.number + size_in cs o.shape - 1) = leb-true _ _ parts.1 in
         elim (cases_eq p (page_of (table o.number))) [
           | inl e ↦ (0, omega (arith, bounds.0, bounds.1, bounds.2), omega (arith, e))
