@@ -61,4 +61,8 @@ bytes-in cs table p o = (byte, page)
         ]
 
     page : (i : ℕ) × (i < size_in cs o.shape) × (page_of (table o.number + i) ≡ p) → has_bytes_in cs table p o ≡ true
-    page (i, lt, is) = and_from _ _ (le-leb _ _ (omega (arith, is))) (le-leb _ _ (omega (arith, lt, is)))
+    page (i, lt, is) =
+        let last : ℕ = table o.number + size_in cs o.shape - 1 in
+        let low : page_of (table o.number) ≤ p = omega (arith, is) in
+        let high : p ≤ page_of last = omega (arith, lt, is) in
+        and_from (nat_le (page_of (table o.number)) p) (nat_le p (page_of last)) (le-leb (page_of (table o.number)) p low) (le-leb p (page_of last) high)
