@@ -1,0 +1,10 @@
+pub mod Lists
+pub mod Graphs
+pub mod Numbers
+pub mod Stored
+pub mod Added
+pub mod Collects
+pub mod Computed
+pub mod Paged
+pub mod Held
+pub mod Named

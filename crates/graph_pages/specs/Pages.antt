@@ -1,0 +1,46 @@
+-- Which pages of a table are mapped for a graph, and a graph held by them.
+use Rattle.std.specs.Prelude.{◌≡◌, ℕ, ◌+◌, ◌-◌, Bool, true, ◌&&◌, nat_le, List, [], ◌∷◌, ◌++◌}
+use Rattle.std.specs.List.{list_any}
+use Rattle.class_layout.specs.ClassList.{Class}
+use Rattle.cow_pages.specs.declared.address.Window.{Window}
+use Rattle.cow_pages.specs.declared.address.Window.TheVariants as window
+use Rattle.cow_pages.specs.Address.{first_page, is_in, page_of}
+use Rattle.cow_pages.specs.Memory.{is_mapped, Memory}
+use Rattle.cow_pages.specs.View.{view_of}
+use Rattle.heap_graph.specs.Graph.{Graph, Object}
+use Rattle.heap_graph.specs.Sizes.{size_in}
+use Rattle.heap_world.specs.declared.names.PageName.{PageName}
+use Rattle.heap_world.specs.declared.names.PageName.TheVariants.{Image, Zygote, Large}
+use Rattle.address_table.specs.Computed.{table_of, Homes}
+use Rattle.graph_pages.specs.Holds.{HoldsGraph, IsBeside, SameTable}
+
+-- the object has bytes in the page
+abbrev pub has_bytes_in : List Class → (ℕ → ℕ) → ℕ → Object → Bool
+has_bytes_in cs table p o = nat_le (page_of (table o.number)) p && nat_le p (page_of (table o.number + size_in cs o.shape - 1))
+
+-- of a window's pages those are mapped in which some object has bytes, and no other
+abbrev pub MapsWindow : Memory → ℕ → Window → List Class → (ℕ → ℕ) → List Object → Type 0
+MapsWindow m t w cs table os = (p : ℕ) → is_in w p ≡ true → is_mapped m t p ≡ list_any (has_bytes_in cs table p) os
+
+-- the pages of a table hold a graph: its objects stand at their computed addresses, and the pages of each window are theirs
+pub record PagesHold (m : Memory) (t : ℕ) (homes : Homes) (g : Graph) : Type 0 where
+  pub objects : HoldsGraph g.classes (view_of m t) (table_of homes g) g.objects
+  pub pages : (w : Window) → MapsWindow m t w g.classes (table_of homes g) g.objects
+
+-- the graph with one object more, which is its newest
+abbrev pub with_object : Graph → Object → Graph
+with_object g o = record g { objects = g.objects ++ o ∷ [] }
+
+-- there is room for a new object at its computed address: its pages are mapped too, no byte of it is another object's, and
+-- the others stay where they are
+pub record HasRoomFor (m : Memory) (t : ℕ) (homes next : Homes) (g : Graph) (o : Object) : Type 0 where
+  pub objects : HoldsGraph g.classes (view_of m t) (table_of homes g) g.objects
+  pub stays : SameTable (table_of homes g) (table_of next (with_object g o)) g.objects
+  pub beside : IsBeside g.classes (table_of homes g) g.objects (table_of next (with_object g o) o.number) (size_in g.classes o.shape)
+  pub pages : (w : Window) → MapsWindow m t w g.classes (table_of next (with_object g o)) (with_object g o).objects
+
+-- the page of a page name
+abbrev pub page_named : (ℕ → ℕ) → PageName → ℕ
+page_named table (Image k) = first_page window.Image + k
+page_named table (Zygote k) = first_page window.Zygote + k
+page_named table (Large n k) = page_of (table n) + k

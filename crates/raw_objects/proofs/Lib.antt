@@ -1,0 +1,4 @@
+pub mod Raws
+pub mod Kept
+pub mod Paging
+pub mod Turned
