@@ -42,6 +42,7 @@ impl Sharers {
     pub fn new(alloc: Global) -> Sharers
         ensures counts { result.counts ≡ [] }
         ensures spare { result.spare ≡ 0 }
+        ensures tallied { AreTallied result }
     {
         Sharers {
             rows: Vec::new(alloc),
@@ -80,6 +81,8 @@ impl Sharers {
         ensures room { OnOk result (length self.old.counts + more ≤ self.new.room) }
         ensures few { OnOk result (length self.old.counts + more < 2 ^ 32) }
         ensures same { SameCounts self.old self.new }
+        ensures grown { self.old.room ≤ self.new.room }
+        ensures tallied { AreTallied self.new }
     {
         if more > u32::MAX as usize - self.rows.len() {
             return Err(AllocError);
@@ -93,7 +96,9 @@ impl Sharers {
         requires few { length self.old.counts + more < 2 ^ 32 }
         ensures counts { self.new.counts ≡ self.old.counts ++ replicate more 0 }
         ensures spare { self.new.spare ≡ self.old.spare + more }
+        ensures tallied { AreTallied self.new }
     {
+        let _ = &self.rows;
         for _i in 0..more {
             self.add_one();
         }
@@ -106,6 +111,7 @@ impl Sharers {
         ensures counts { self.new.counts ≡ self.old.counts ++ replicate 1 0 }
         ensures spare { self.new.spare ≡ self.old.spare + 1 }
         ensures room { self.new.room ≡ self.old.room }
+        ensures tallied { AreTallied self.new }
     {
         let number = self.rows.len() as u32;
         self.rows.push_reserved(Row {
@@ -125,6 +131,7 @@ impl Sharers {
         ensures free { count_of self.old result ≡ 0 }
         ensures counts { self.new.counts ≡ slice_set self.old.counts result 1 }
         ensures spare { self.new.spare + 1 ≡ self.old.spare }
+        ensures tallied { AreTallied self.new }
     {
         let number = self.first_free as usize;
         let row = &mut self.rows[number];
@@ -142,6 +149,7 @@ impl Sharers {
         requires fits { count_of self.old number + 1 < 2 ^ 64 }
         ensures counts { self.new.counts ≡ slice_set self.old.counts number (count_of self.old number + 1) }
         ensures spare { self.new.spare ≡ self.old.spare }
+        ensures tallied { AreTallied self.new }
     {
         self.rows[number].holders += 1;
     }
@@ -154,6 +162,7 @@ impl Sharers {
         ensures counts { self.new.counts ≡ slice_set self.old.counts number (count_of self.old number - 1) }
         ensures kept { 1 < count_of self.old number → self.new.spare ≡ self.old.spare }
         ensures freed { count_of self.old number ≡ 1 → self.new.spare ≡ self.old.spare + 1 }
+        ensures tallied { AreTallied self.new }
     {
         let row = &mut self.rows[number];
         if row.holders > 1 {
