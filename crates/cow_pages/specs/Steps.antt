@@ -20,16 +20,19 @@ pub record SetsPlace (s new : Store) (t i : ℕ) (o : Option ℕ) : Type 0 where
   pub room : i < length (slice_index_or (table_grid s) t [])
   pub tables : table_grid new ≡ slice_set (table_grid s) t (slice_set (slice_index_or (table_grid s) t []) i o)
   pub sharers : (l : ℕ) → leaf_sharers new l + one_held leaf_key (place_at s t i) l ≡ leaf_sharers s l + one_held leaf_key o l
+  pub len : length new.leaf_counts.counts ≡ length s.leaf_counts.counts
 
 -- a table has these leaves, and the leaves' counts follow
 pub record SetsRow (s new : Store) (t : ℕ) (row : Row) : Type 0 where
   pub there : t < length (table_grid s)
   pub tables : table_grid new ≡ slice_set (table_grid s) t row
   pub sharers : (l : ℕ) → leaf_sharers new l + held leaf_key (slice_index_or (table_grid s) t []) l ≡ leaf_sharers s l + held leaf_key row l
+  pub len : length new.leaf_counts.counts ≡ length s.leaf_counts.counts
 
 pub record KeepsTables (s new : Store) : Type 0 where
   pub tables : table_grid new ≡ table_grid s
   pub sharers : (l : ℕ) → leaf_sharers new l ≡ leaf_sharers s l
+  pub len : length new.leaf_counts.counts ≡ length s.leaf_counts.counts
 
 -- a leaf has this entry at a slot, or none, and the frames' counts follow
 pub record SetsSlot (s new : Store) (l a : ℕ) (o : Option Entry) : Type 0 where

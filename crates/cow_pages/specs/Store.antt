@@ -61,8 +61,9 @@ entry_in s (Some l) a = cell (leaf_grid s) l a
 abbrev pub entry_at : Store → ℕ → ℕ → Option Entry
 entry_at s t p = entry_in s (place_at s t (p / leaf_pages)) (p % leaf_pages)
 
--- the rows have their lengths
+-- the rows have their lengths, and there is a count for each leaf
 pub record IsWhole (s : Store) : Type 0 where
+  pub count : length s.leaf_counts.counts ≡ length (leaf_grid s)
   pub leaves : (l : ℕ) → l < length (leaf_grid s) → length (slice_index_or (leaf_grid s) l []) ≡ leaf_pages
 
 -- each count is that of the places
@@ -82,10 +83,9 @@ pub record IsKept (s : Store) : Type 0 where
   pub counts : HasCounts s
   pub pages : HasPages s
 
--- there is a count for each frame, leaf and table, a live table has its places, and frames have their bytes
+-- there is a count for each frame and table, a live table has its places, and frames have their bytes
 pub record HasRoom (s : Store) : Type 0 where
   pub frames : length s.frame_counts.counts ≡ length s.frames.items
-  pub leaves : length s.leaf_counts.counts ≡ length s.leaves.items
   pub tables : length s.table_counts.counts ≡ length s.tables.items
   pub frames_tallied : AreTallied s.frame_counts
   pub leaves_tallied : AreTallied s.leaf_counts
