@@ -1,3 +1,7 @@
+pub mod CountLemmas
+pub mod CodeLemmas
+pub mod WindowLemmas
+pub mod LeafLemmas
 pub mod GridLemmas
 pub mod SharedLemmas
 pub mod ShownLemmas

@@ -1,7 +1,7 @@
 -- What the steps of a store do. No public clause cites this module.
-use Rattle.std.specs.Prelude.{◌≡◌, ◌≢◌, ◌⊎◌, ℕ, ◌+◌, ◌<◌, ◌≤◌, ◌/◌, ◌%◌, ◌^◌, List, [], length, map, replicate, min, Option, Some, None, slice_index_or, slice_set, true, false, is_some, IsTrue, vec_len, vec_capacity}
+use Rattle.std.specs.Prelude.{◌≡◌, ◌≢◌, ◌⊎◌, ℕ, ◌+◌, ◌<◌, ◌≤◌, ◌/◌, ◌%◌, ◌^◌, List, [], length, map, replicate, min, Option, Some, None, slice_index_or, slice_set, take, true, false, is_some, IsTrue, vec_len, vec_capacity}
 use Rattle.model_numbers.specs.Numbers.{page_bytes}
-use Rattle.sharers.specs.Shares.{AreTallied}
+use Rattle.sharers.specs.Shares.{Shares, AreTallied, count_of}
 use Rattle.cow_pages.specs.Address.{leaf_pages}
 use Rattle.cow_pages.specs.declared.address.Window.{Window}
 use Rattle.cow_pages.specs.declared.leaf.Entry.{Entry}
@@ -323,3 +323,26 @@ pub record Ending (s new : Store) (t i : ℕ) : Type 0 where
   pub reads : new.reads ≡ s.reads
   pub frames_spare : s.frame_counts.spare ≤ new.frame_counts.spare
   pub leaves_spare : s.leaf_counts.spare ≤ new.leaf_counts.spare
+
+-- the frames of a leaf's first entries have one sharer more for each
+pub record SharesSome (s new : Store) (l i : ℕ) : Type 0 where
+  pub sharers : (f : ℕ) → frame_sharers new f ≡ frame_sharers s f + held frame_key (take i (slice_index_or (leaf_grid s) l [])) f
+  pub spare : new.frame_counts.spare ≡ s.frame_counts.spare
+  pub len : length new.frame_counts.counts ≡ length s.frame_counts.counts
+  pub tallied : AreTallied new.frame_counts
+  pub rest : new ≡ record s { frame_counts = new.frame_counts }
+
+-- the frames of a leaf's first entries have one sharer less for each
+pub record UnsharesSome (s new : Store) (l i : ℕ) : Type 0 where
+  pub sharers : (f : ℕ) → frame_sharers new f + held frame_key (take i (slice_index_or (leaf_grid s) l [])) f ≡ frame_sharers s f
+  pub spare : s.frame_counts.spare ≤ new.frame_counts.spare
+  pub len : length new.frame_counts.counts ≡ length s.frame_counts.counts
+  pub tallied : AreTallied new.frame_counts
+  pub rest : new ≡ record s { frame_counts = new.frame_counts }
+
+-- the first of these leaves have one sharer more for each place
+pub record SharesLeaves (old new : Shares) (row : Row) (i : ℕ) : Type 0 where
+  pub sharers : (l : ℕ) → count_of new l ≡ count_of old l + held leaf_key (take i row) l
+  pub spare : new.spare ≡ old.spare
+  pub len : length new.counts ≡ length old.counts
+  pub tallied : AreTallied new

@@ -1,7 +1,7 @@
 //! A leaf: the entries of 1,024 pages.
-ghost use Rattle.std.specs.Prelude.{◌≡◌, ◌<◌, ◌^◌, map, None, true, false, slice_set};
+ghost use Rattle.std.specs.Prelude.{◌≡◌, ◌<◌, ◌^◌, length, map, None, true, false, slice_set};
 ghost use Rattle.cow_pages.specs.Address.{leaf_pages};
-ghost use Rattle.cow_pages.specs.Leaf.{no_leaf, present, cleared};
+ghost use Rattle.cow_pages.specs.Leaf.{no_leaf, present, cleared, one_mapped};
 
 use crate::address::LEAF_PAGES;
 
@@ -57,27 +57,36 @@ impl Leaf {
     #[inline]
     pub fn set(&mut self, slot: usize, entry: Option<Entry>)
         requires within { slot < leaf_pages }
+        requires len { length self.old.entries ≡ leaf_pages }
         requires mapped { self.old.mapped ≡ present self.old.entries }
         ensures entries { self.new.entries ≡ slice_set self.old.entries slot entry }
         ensures mapped { self.new.mapped ≡ present self.new.entries }
     {
-        if self.entries[slot].is_some() {
-            self.mapped -= 1;
-        }
-        if entry.is_some() {
-            self.mapped += 1;
-        }
+        let gone = count_of(self.entries[slot]);
         self.entries[slot] = entry;
+        self.mapped = self.mapped - gone + count_of(entry);
     }
 
     /// Clears the flag of each entry.
     pub fn settle(&mut self)
+        requires { length self.old.entries ≡ leaf_pages }
         ensures entries { self.new.entries ≡ map cleared self.old.entries }
         ensures mapped { self.new.mapped ≡ self.old.mapped }
     {
         for i in 0..LEAF_PAGES {
             self.entries[i] = cleared(self.entries[i]);
         }
+    }
+}
+
+/// 1 where an entry is there.
+#[inline]
+fn count_of(entry: Option<Entry>) -> u32
+    ensures { result ≡ one_mapped entry }
+{
+    match entry {
+        Some(_entry) => 1,
+        None => 0,
     }
 }
 

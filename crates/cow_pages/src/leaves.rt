@@ -31,6 +31,7 @@ impl Store {
     pub fn set_slot(&mut self, leaf: usize, slot: usize, entry: Option<Entry>)
         requires within { leaf < length self.old.leaves.items }
         requires slot { slot < leaf_pages }
+        requires len { length (slice_index_or (leaf_grid self.old) leaf []) ≡ leaf_pages }
         requires slots { CountsSlots self.old }
         ensures grid { leaf_grid self.new ≡ slice_set (leaf_grid self.old) leaf (slice_set (slice_index_or (leaf_grid self.old) leaf []) slot entry) }
         ensures slots { CountsSlots self.new }
@@ -42,6 +43,7 @@ impl Store {
     /// Gives the frames of a leaf's entries one sharer more for each of them.
     fn share_row(&mut self, leaf: usize)
         requires within { leaf < length self.old.leaves.items }
+        requires len { length (slice_index_or (leaf_grid self.old) leaf []) ≡ leaf_pages }
         requires frames { (a : ℕ) (e : Entry) → slice_index_or (slice_index_or (leaf_grid self.old) leaf []) a None ≡ Some e → (e.frame < length self.old.frame_counts.counts) × (0 < frame_sharers self.old e.frame) }
         requires fits { (f : ℕ) → frame_sharers self.old f + leaf_pages < 2 ^ 64 }
         requires tallied { AreTallied self.old.frame_counts }
@@ -60,6 +62,7 @@ impl Store {
     /// Takes the frames of a leaf's entries from them.
     pub fn unshare_row(&mut self, leaf: usize)
         requires within { leaf < length self.old.leaves.items }
+        requires len { length (slice_index_or (leaf_grid self.old) leaf []) ≡ leaf_pages }
         requires frames { (a : ℕ) (e : Entry) → slice_index_or (slice_index_or (leaf_grid self.old) leaf []) a None ≡ Some e → e.frame < length self.old.frame_counts.counts }
         requires held { (f : ℕ) → held frame_key (slice_index_or (leaf_grid self.old) leaf []) f ≤ frame_sharers self.old f }
         requires tallied { AreTallied self.old.frame_counts }
