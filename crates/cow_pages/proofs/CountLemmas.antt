@@ -35,7 +35,7 @@ count-joined old new more is n = elim (cases_lt n (length old.counts)) [
       ∙ zeros more (n - length old.counts) ∙ sym (get_or_past old.counts n 0 past)
 ]
   where
-    zeros : (m i : ℕ) → get_or (replicate m 0) i 0 ≡ 0
+    zeros : (m i : ℕ) → ◌≡◌ {A = ℕ} (get_or (replicate m 0) i 0) 0
     zeros zero i = refl
     zeros (suc m) zero = refl
     zeros (suc m) (suc i) = zeros m i

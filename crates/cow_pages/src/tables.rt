@@ -180,6 +180,7 @@ impl Store {
 fn share_all(counts: &mut Sharers, leaves: &[Option<u32>])
     requires held { (i l : ℕ) → slice_index_or leaves.now i None ≡ Some l → (l < length counts.old.counts) × (0 < count_of counts.old l) }
     requires fits { (l : ℕ) → count_of counts.old l + length leaves.now < 2 ^ 64 }
+    requires tallied { AreTallied counts.old }
     ensures sharers { (l : ℕ) → count_of counts.new l ≡ count_of counts.old l + held leaf_key leaves.now l }
     ensures spare { counts.new.spare ≡ counts.old.spare }
     ensures len { length counts.new.counts ≡ length counts.old.counts }
