@@ -1,9 +1,10 @@
 //! Frames and leaves that are free.
-ghost use Rattle.std.specs.Prelude.{◌≡◌, ◌≢◌, ◌+◌, ◌-◌, ◌<◌, ◌≤◌, ◌^◌, ◌++◌, length, replicate, IsOk, OnOk, OnErr, slice_set, vec_len, vec_capacity};
+ghost use Rattle.std.specs.Prelude.{◌≡◌, ◌≢◌, ℕ, ◌+◌, ◌-◌, ◌<◌, ◌≤◌, ◌^◌, ◌++◌, length, replicate, IsOk, OnOk, OnErr, slice_set, vec_len, vec_capacity};
+ghost use Rattle.model_numbers.specs.Numbers.{page_bytes};
 ghost use Rattle.sharers.specs.Shares.{AreTallied};
 ghost use Rattle.cow_pages.specs.Frame.{zero_frame, frame_of};
 ghost use Rattle.cow_pages.specs.Leaf.{no_leaf};
-ghost use Rattle.cow_pages.specs.Store.{shown, spare_of, frame_sharers, leaf_sharers, IsStore};
+ghost use Rattle.cow_pages.specs.Store.{shown, bytes_of, spare_of, frame_sharers, leaf_sharers, IsStore};
 ghost use Rattle.cow_pages.specs.Steps.{HoldsFrame, HasSpace, AddsRoom};
 
 use crate::frame::{Frame, clear, copy_bytes};
@@ -88,6 +89,7 @@ impl Store {
     pub fn take_zeros(&mut self) -> usize
         requires spare { 0 < self.old.frame_counts.spare }
         requires counts { length self.old.frame_counts.counts ≡ length self.old.frames.items }
+        requires whole { (f : ℕ) → f < length self.old.frames.items → length (bytes_of self.old f) ≡ page_bytes }
         ensures holds { HoldsFrame self.old self.new result }
         ensures frames { self.new.frames.items ≡ slice_set self.old.frames.items result zero_frame }
         ensures rest { self.new ≡ record self.old { frames = self.new.frames; frame_counts = self.new.frame_counts } }
