@@ -18,3 +18,4 @@ pub mod LawLemmas
 pub mod ViewLemmas
 pub mod OnlyLemmas
 pub mod ReadLemmas
+pub mod StoreLemmas

@@ -157,6 +157,7 @@ impl Store {
         requires to_within { to < length self.old.leaves.items }
         ensures grid { leaf_grid self.new ≡ slice_set (leaf_grid self.old) to (slice_index_or (leaf_grid self.old) from []) }
         ensures slots { CountsSlots self.old → CountsSlots self.new }
+        ensures pages { (l : ℕ) → l ≢ to → pages_kept self.new l ≡ pages_kept self.old l }
         ensures rest { self.new ≡ record self.old { leaves = self.new.leaves } }
     {
         let entries = self.leaves[from].entries;

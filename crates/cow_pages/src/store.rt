@@ -1,9 +1,10 @@
 //! All frames, leaves and tables, and how an entry is found.
 ghost use Rattle.std.specs.Prelude.{◌≡◌, ◌<◌, [], length, IsTrue, is_some, slice_index_or};
-ghost use Rattle.cow_pages.specs.Address.{page_of, leaf_index, leaf_slot, table_leaves};
+ghost use Rattle.cow_pages.specs.Address.{page_of, leaf_pages};
 ghost use Rattle.cow_pages.specs.Memory.{is_live, is_mapped, frame_at, leaf_at};
 ghost use Rattle.cow_pages.specs.Change.{reads_after};
-ghost use Rattle.cow_pages.specs.Store.{shown, place_at, entry_at, table_grid, IsStore};
+ghost use Rattle.cow_pages.specs.Grid.{cell};
+ghost use Rattle.cow_pages.specs.Store.{shown, place_at, entry_at, leaf_grid, table_grid, IsStore};
 
 use crate::address::{ALL_PAGES, Addr, LEAF_PAGES};
 use crate::frame::Frame;
@@ -59,6 +60,16 @@ impl Store {
         }
     }
 
+    /// The entry in a slot of a leaf.
+    #[inline]
+    fn slot(&self, leaf: usize, slot: usize) -> Option<Entry>
+        requires leaf { leaf < length self.now.leaves.items }
+        requires slot { slot < leaf_pages }
+        ensures { result ≡ cell (leaf_grid self.now) leaf slot }
+    {
+        self.leaves[leaf].entries[slot]
+    }
+
     /// The entry of a page, if it is mapped.
     #[inline]
     pub fn entry(&self, t: usize, page: u32) -> Option<Entry>
@@ -70,7 +81,7 @@ impl Store {
             return None;
         }
         match self.place(t, page as usize / LEAF_PAGES) {
-            Some(leaf) => self.leaves[leaf as usize].entries[page as usize % LEAF_PAGES],
+            Some(leaf) => self.slot(leaf as usize, page as usize % LEAF_PAGES),
             None => None,
         }
     }
@@ -97,7 +108,7 @@ impl Store {
         let Some(leaf) = self.place(t, page as usize / LEAF_PAGES) else {
             unreachable!()
         };
-        match self.leaves[leaf as usize].entries[page as usize % LEAF_PAGES] {
+        match self.slot(leaf as usize, page as usize % LEAF_PAGES) {
             Some(entry) => entry,
             None => unreachable!(),
         }
@@ -111,9 +122,17 @@ impl Store {
         ensures number { frame_at (shown self.old) t (page_of at.0) ≡ Some result }
         ensures store { self.new ≡ record self.old { reads = reads_after self.old.reads at.0 } }
     {
+        self.count_read(at);
+        self.mapped_entry(t, at.page().0).frame as usize
+    }
+
+    /// Counts a read where its address is in the image or zygote window.
+    #[inline]
+    fn count_read(&mut self, at: Addr)
+        ensures { self.new ≡ record self.old { reads = reads_after self.old.reads at.0 } }
+    {
         if at.is_immune() {
             self.reads = self.reads.saturating_add(1);
         }
-        self.mapped_entry(t, at.page().0).frame as usize
     }
 }
