@@ -18,4 +18,5 @@ pub mod LawLemmas
 pub mod ViewLemmas
 pub mod OnlyLemmas
 pub mod ReadLemmas
+pub mod RoomLemmas
 pub mod StoreLemmas

@@ -1,6 +1,6 @@
 -- A store after leaves alone were changed.
-use Rattle.std.proofs.Common.{◌≡◌, ◌≢◌, ◌⊎◌, ℕ, ◌+◌, ◌-◌, ◌<◌, ◌≤◌, List, [], length, get_or, set, Some, None, Option, is_some, IsTrue, refl, sym, ap, subst, ◌∙◌, inl, inr, arith}
-use Rattle.std.specs.Prelude.{All}
+use Rattle.std.proofs.Common.{◌≡◌, ◌≢◌, ◌⊎◌, ℕ, ◌+◌, ◌*◌, ◌-◌, ◌<◌, ◌≤◌, ◌^◌, List, [], ◌∷◌, length, get_or, set, Some, None, Option, is_some, IsTrue, refl, sym, ap, subst, ◌∙◌, inl, inr, arith}
+use Rattle.std.specs.Prelude.{All, take}
 use Rattle.std.proofs.lemmas.List.{get_or-set_same, get_or-set_other, length-set, length-map}
 use Rattle.std.proofs.lemmas.Bool.{cases_eq}
 use Rattle.std.proofs.lemmas.Option.{none-some, same_Some}
@@ -11,12 +11,13 @@ use Rattle.cow_pages.specs.declared.store.Store.{Store}
 use Rattle.cow_pages.specs.Memory.{HasOwnLeaf, HasSharedLeaf, IsFreeLeaf, used_leaves}
 use Rattle.cow_pages.specs.Change.{OwnsLeaf}
 use Rattle.cow_pages.specs.Tables.{mapped_from, written_from}
-use Rattle.cow_pages.specs.Grid.{held, one_held}
+use Rattle.cow_pages.specs.Grid.{held, one_held, all_held}
 use Rattle.cow_pages.specs.Store.{Row, row_of, frame_key, leaf_key, leaf_grid, table_grid, table_entries, bytes_of, frame_sharers, leaf_sharers, pages_kept, place_at, entry_at, mapped_kept, written_kept, shown, CountsSlots, FilledBeside, IsFilled, IsCounted, IsKept, HasRoom, IsStore, IsReady}
 use Rattle.cow_pages.specs.Steps.{SetsPlace, KeepsCounts, KeepsRoomOf, SameEntries, TakesLeaf, CopiesLeaf, Ready}
-use Rattle.cow_pages.proofs.GridLemmas.{cell_other, cell-row, cell-column, held-empty, one-yes, one-no}
+use Rattle.cow_pages.proofs.GridLemmas.{cell_other, cell-row, cell-column, cell-there, held-empty, one-yes, one-no}
 use Rattle.cow_pages.proofs.SharedLemmas.{leaf_held, leaf_within}
 use Rattle.cow_pages.proofs.StepLemmas.{leaf-here, leaf-other, only_place, this_or_other}
+use Rattle.cow_pages.proofs.CountLemmas.{count-within, held-le, take-all}
 use Rattle.cow_pages.proofs.OpLemmas.{take_kept, take_entries, own_kept, own_entries}
 use Rattle.cow_pages.proofs.SeenLemmas.{ready_own}
 use Rattle.cow_pages.proofs.CodeLemmas.{live_within}
@@ -305,3 +306,106 @@ copied_leaf s new t i from to store c =
       };
     } in
     readied_free s new t i to store (own_kept s new t i from to kept copies) (own_entries s new t i from to kept copies) sets c.free own c.besides (inr (has_shared s store t i from c.place c.more))
+
+-- no more places have a key than there are
+pub all-le : {E : Type 0} (key : E → ℕ) (g : List (List (Option E))) (x : ℕ) → ((r : ℕ) → r < length g → length (get_or g r []) ≡ 1024) → all_held key g x ≤ length g * 1024
+all-le key [] x rows = omega arith
+all-le key (row ∷ rest) x rows =
+    let len : length row ≡ 1024 = rows 0 (omega arith) in
+    let bound = held-le key row 1024 x in
+    let whole = ap (λ (it : List (Option _)). held key it x) (take-all row 1024 (omega (arith, len))) in
+    omega (arith, all-le key rest x (λ r below. rows (suc r) (omega arith)), bound, whole)
+
+-- a leaf's frames may be shared once more
+pub frames_fit : (s : Store) → IsStore s → (f : ℕ) → frame_sharers s f + 1024 < 2 ^ 64
+frames_fit s store f =
+    omega (arith, store.room.leaves_tallied.few, store.kept.whole.count, store.kept.counts.frames f, all-le frame_key (leaf_grid s) f store.kept.whole.leaves)
+
+-- the frame of an entry of a leaf is counted
+pub row_frames : (s : Store) → IsKept s → (l a : ℕ) (e : Entry) → get_or (get_or (leaf_grid s) l []) a None ≡ Some e → (e.frame < length s.frame_counts.counts) × (0 < frame_sharers s e.frame)
+row_frames s kept l a e is =
+    let some : 0 < frame_sharers s e.frame = omega (arith, kept.counts.frames e.frame, cell-there frame_key (leaf_grid s) l a e e.frame is refl) in
+    (count-within s.frame_counts e.frame some, some)
+
+-- the steps of a copy of a leaf, one after the other
+pub record CopySteps (s m1 m3 new : Store) (t i from to : ℕ) (sh1 sh2 : Shares) : Type 0 where
+  pub shared : (f : ℕ) → frame_sharers m1 f ≡ frame_sharers s f + held frame_key (get_or (leaf_grid s) from []) f
+  pub shared_spare : m1.frame_counts.spare ≡ s.frame_counts.spare
+  pub shared_len : length m1.frame_counts.counts ≡ length s.frame_counts.counts
+  pub shared_tallied : AreTallied m1.frame_counts
+  pub shared_rest : m1 ≡ record s { frame_counts = m1.frame_counts }
+  pub taken_within : to < length m1.leaf_counts.counts
+  pub taken_free : leaf_sharers m1 to ≡ 0
+  pub taken_counts : sh1.counts ≡ set m1.leaf_counts.counts to 1
+  pub taken_spare : sh1.spare + 1 ≡ m1.leaf_counts.spare
+  pub copied_grid : leaf_grid m3 ≡ set (leaf_grid m1) to (get_or (leaf_grid m1) from [])
+  pub copied_slots : CountsSlots m1 → CountsSlots m3
+  pub copied_pages : (l : ℕ) → l ≢ to → pages_kept m3 l ≡ pages_kept m1 l
+  pub copied_rest : m3 ≡ record m1 { leaf_counts = sh1; leaves = m3.leaves }
+  pub left_counts : sh2.counts ≡ set m3.leaf_counts.counts from (leaf_sharers m3 from - 1)
+  pub left_spare : 1 < leaf_sharers m3 from → sh2.spare ≡ m3.leaf_counts.spare
+  pub left_tallied : AreTallied sh2
+  pub put_grid : table_grid new ≡ set (table_grid m3) t (set (get_or (table_grid m3) t []) i (Some to))
+  pub put_counts : KeepsCounts m3 new
+  pub put_rest : new ≡ record m3 { leaf_counts = sh2; tables = new.tables }
+
+-- the sharers of the leaf that is left, before it is
+pub left_sharers : (s m1 m3 : Store) (t i from to : ℕ) (sh1 : Shares) → IsStore s → place_at s t i ≡ Some from → m1 ≡ record s { frame_counts = m1.frame_counts } → leaf_sharers m1 to ≡ 0 → sh1.counts ≡ set m1.leaf_counts.counts to 1
+    → m3 ≡ record m1 { leaf_counts = sh1; leaves = m3.leaves } → leaf_sharers m3 from ≡ leaf_sharers s from
+left_sharers s m1 m3 t i from to sh1 store place rest free counts rest3 =
+    let was : leaf_sharers m1 from ≡ leaf_sharers s from = ap (λ (it : Store). leaf_sharers it from) rest in
+    let apart : from ≢ to = (λ same. omega (arith, leaf_held s store.kept.counts t i from place, was, free, ap (leaf_sharers m1) same)) in
+    ap (λ (it : Store). leaf_sharers it from) rest3 ∙ ap (λ (cs : List ℕ). get_or cs from 0) counts ∙ get_or-set_other m1.leaf_counts.counts to from 1 0 apart ∙ was
+
+pub copied_steps : (s m1 m3 new : Store) (t i from to : ℕ) (sh1 sh2 : Shares) → IsStore s → place_at s t i ≡ Some from → leaf_sharers s from ≢ 1 → CopySteps s m1 m3 new t i from to sh1 sh2 → Readied s new t i to
+copied_steps s m1 m3 new t i from to sh1 sh2 store place more c =
+    let left = left_sharers s m1 m3 t i from to sh1 store place c.shared_rest c.taken_free c.taken_counts c.copied_rest in
+    let some = leaf_held s store.kept.counts t i from place in
+    let counts1 : m1.leaf_counts.counts ≡ s.leaf_counts.counts = ap (λ (it : Store). it.leaf_counts.counts) c.shared_rest in
+    let counts3 : m3.leaf_counts.counts ≡ set s.leaf_counts.counts to 1 =
+    ap (λ (it : Store). it.leaf_counts.counts) c.copied_rest ∙ c.taken_counts ∙ ap (λ (cs : List ℕ). set cs to 1) counts1 in
+    let leaf_is : new.leaf_counts ≡ sh2 = ap (λ (it : Store). it.leaf_counts) c.put_rest in
+    let frame_is : new.frame_counts ≡ m1.frame_counts = ap (λ (it : Store). it.frame_counts) c.put_rest ∙ ap (λ (it : Store). it.frame_counts) c.copied_rest in
+    let grid3 : table_grid m3 ≡ table_grid s = ap (λ (it : Store). table_grid it) c.copied_rest ∙ ap (λ (it : Store). table_grid it) c.shared_rest in
+    let tables3 : m3.tables ≡ s.tables = ap (λ (it : Store). it.tables) c.copied_rest ∙ ap (λ (it : Store). it.tables) c.shared_rest in
+    let slots1 : CountsSlots m1 = subst CountsSlots (sym c.shared_rest) store.slots in
+    let slots3 : CountsSlots m3 = c.copied_slots slots1 in
+    copied_leaf s new t i from to store (record {
+      place = place;
+      more = more;
+      free = sym (ap (λ (it : Store). leaf_sharers it to) c.shared_rest) ∙ c.taken_free;
+      within = omega (arith, c.taken_within, ap (λ (cs : List ℕ). length cs) counts1);
+      frames = λ f. ap (λ (it : Shares). Rattle.sharers.specs.Shares.count_of it f) frame_is ∙ c.shared f;
+      leaves = ap (λ (it : Store). leaf_grid it) c.put_rest ∙ c.copied_grid
+          ∙ ap (λ (g : List (List (Option Entry))). set g to (get_or g from [])) (ap (λ (it : Store). leaf_grid it) c.shared_rest);
+      counts = ap (λ (it : Shares). it.counts) leaf_is ∙ c.left_counts ∙ ap (λ (cs : List ℕ). set cs from (leaf_sharers m3 from - 1)) counts3
+          ∙ ap (λ n. set (set s.leaf_counts.counts to 1) from (n - 1)) left;
+      grid = c.put_grid ∙ ap (λ (g : List Row). set g t (set (get_or g t []) i (Some to))) grid3;
+      besides = record {
+        counts = record {
+          kept = λ u w. (
+            (c.put_counts.kept u w).0 ∙ ap (λ (it : Rattle.std.specs.declared.vec.Vec.Vec (Option Rattle.cow_pages.specs.declared.table.Table.Table) Rattle.std.specs.declared.alloc.Global.Global). Rattle.cow_pages.specs.Counts.count_in (Rattle.cow_pages.specs.Store.mapped_counts (get_or it.items u None)) w) tables3,
+            (c.put_counts.kept u w).1 ∙ ap (λ (it : Rattle.std.specs.declared.vec.Vec.Vec (Option Rattle.cow_pages.specs.declared.table.Table.Table) Rattle.std.specs.declared.alloc.Global.Global). Rattle.cow_pages.specs.Counts.count_in (Rattle.cow_pages.specs.Store.written_counts (get_or it.items u None)) w) tables3,
+          );
+          live = λ u. c.put_counts.live u ∙ ap (λ (it : Rattle.std.specs.declared.vec.Vec.Vec (Option Rattle.cow_pages.specs.declared.table.Table.Table) Rattle.std.specs.declared.alloc.Global.Global). is_some (get_or it.items u None)) tables3;
+          len = c.put_counts.len ∙ ap (λ (it : Rattle.std.specs.declared.vec.Vec.Vec (Option Rattle.cow_pages.specs.declared.table.Table.Table) Rattle.std.specs.declared.alloc.Global.Global). length it.items) tables3;
+        };
+        frames = ap (λ (it : Store). it.frames) c.put_rest ∙ ap (λ (it : Store). it.frames) c.copied_rest ∙ ap (λ (it : Store). it.frames) c.shared_rest;
+        frame_len = ap (λ (it : Shares). length it.counts) frame_is ∙ c.shared_len;
+        frame_spare = ap (λ (it : Shares). it.spare) frame_is ∙ c.shared_spare;
+        frames_tallied = subst AreTallied (sym frame_is) c.shared_tallied;
+        leaves_tallied = subst AreTallied (sym leaf_is) c.left_tallied;
+        leaf_spare = omega (
+          arith,
+          ap (λ (it : Shares). it.spare) leaf_is,
+          c.left_spare (omega (arith, left, some, more)),
+          ap (λ (it : Store). it.leaf_counts.spare) c.copied_rest,
+          c.taken_spare,
+          ap (λ (it : Store). it.leaf_counts.spare) c.shared_rest,
+        );
+        numbers = ap (λ (it : Store). it.table_counts) c.put_rest ∙ ap (λ (it : Store). it.table_counts) c.copied_rest ∙ ap (λ (it : Store). it.table_counts) c.shared_rest;
+        slots = subst CountsSlots (sym c.put_rest) slots3;
+        pages = λ l off. ap (λ (it : Store). pages_kept it l) c.put_rest ∙ c.copied_pages l off ∙ ap (λ (it : Store). pages_kept it l) c.shared_rest;
+        reads = ap (λ (it : Store). it.reads) c.put_rest ∙ ap (λ (it : Store). it.reads) c.copied_rest ∙ ap (λ (it : Store). it.reads) c.shared_rest;
+      };
+    })

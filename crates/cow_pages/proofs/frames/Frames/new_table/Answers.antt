@@ -1,0 +1,48 @@
+use Rattle.std.proofs.Common.{ap, is_some}
+use Rattle.cow_pages.specs.Address.{page_of}
+use Rattle.cow_pages.proofs.SoundLemmas.{sound}
+use Rattle.cow_pages.proofs.RoomLemmas.{on_err}
+use Rattle.cow_pages.proofs.ViewLemmas.{OthersSeen-table}
+use Rattle.cow_pages.proofs.frames.Frames.new_table.Goals as goal
+
+pub new_table-requires : goal.new_table-requires
+new_table-requires c = c.self.invariant
+
+pub invariant_of-self : goal.invariant_of-self
+invariant_of-self c = c.new_table.ensures.store
+
+pub returns-clause-fresh : goal.returns-clause-fresh
+returns-clause-fresh c = rw (← c.self.view_is) c.in_ok-new_table.ensures.fresh
+
+pub returns-clause-live : goal.returns-clause-live
+returns-clause-live c = c.in_ok-new_table.ensures.live
+
+pub returns-clause-pages : goal.returns-clause-pages
+returns-clause-pages c = c.in_ok-new_table.ensures.pages
+
+pub returns-clause-rest : goal.returns-clause-rest
+returns-clause-rest c = rw (← c.self.view_is) c.in_ok-new_table.ensures.rest
+
+pub returns-clause-view : goal.returns-clause-view
+returns-clause-view c = λ at. ap is_some (c.in_ok-new_table.ensures.pages (page_of at))
+
+pub returns-clause-others_seen : goal.returns-clause-others_seen
+returns-clause-others_seen c = rw (← c.self.view_is) (OthersSeen-table _ _ _ c.in_ok-new_table.ensures.rest)
+
+pub returns-clause-room : goal.returns-clause-room
+returns-clause-room c = rw (← c.self.view_is) c.new_table.ensures.room
+
+pub returns-clause-sound : goal.returns-clause-sound
+returns-clause-sound c = sound _ c.new_table.ensures.store
+
+pub returns-in_err-new_table-clause-room : goal.returns-in_err-new_table-clause-room
+returns-in_err-new_table-clause-room c = rw (← c.self.view_is) c.new_table.ensures.room
+
+pub returns-in_err-new_table-clause-sound : goal.returns-in_err-new_table-clause-sound
+returns-in_err-new_table-clause-sound c = sound _ c.new_table.ensures.store
+
+pub returns-in_err-new_table-clause-err : goal.returns-in_err-new_table-clause-err
+returns-in_err-new_table-clause-err c = rw (← c.self.view_is) (on_err _ c.in_err-new_table.ensures.err)
+
+pub returns-clause-leaves : goal.returns-clause-leaves
+returns-clause-leaves c = rw (← c.self.view_is) c.in_ok-new_table.ensures.leaves
