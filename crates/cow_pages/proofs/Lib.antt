@@ -20,3 +20,4 @@ pub mod OnlyLemmas
 pub mod ReadLemmas
 pub mod RoomLemmas
 pub mod StoreLemmas
+pub mod EntryLemmas
