@@ -35,6 +35,7 @@ impl Store {
         requires slots { CountsSlots self.old }
         ensures grid { leaf_grid self.new ≡ slice_set (leaf_grid self.old) leaf (slice_set (slice_index_or (leaf_grid self.old) leaf []) slot entry) }
         ensures slots { CountsSlots self.new }
+        ensures pages { (l : ℕ) → l ≢ leaf → pages_kept self.new l ≡ pages_kept self.old l }
         ensures rest { self.new ≡ record self.old { leaves = self.new.leaves } }
     {
         self.leaves[leaf].set(slot, entry);

@@ -3,7 +3,7 @@ use Rattle.std.proofs.lemmas.List.{map-set}
 use Rattle.cow_pages.specs.declared.leaf.Entry.{Entry}
 use Rattle.cow_pages.specs.declared.leaf.Leaf.{Leaf}
 use Rattle.cow_pages.specs.Leaf.{present}
-use Rattle.cow_pages.proofs.CodeLemmas.{entry_read, field-was, slots-set}
+use Rattle.cow_pages.proofs.CodeLemmas.{entry_read, field-was, field-other, slots-set}
 use Rattle.cow_pages.proofs.store.Store.set_slot.Goals as goal
 
 pub set-requires-clause-len : goal.set-requires-clause-len
@@ -27,3 +27,6 @@ returns-clause-grid c =
 
 pub returns-clause-slots : goal.returns-clause-slots
 returns-clause-slots c = slots-set c.args.self.now.leaves.items c.args.leaf c.set.new.self c.requires.within c.set.ensures.mapped c.requires.slots
+
+pub returns-clause-pages : goal.returns-clause-pages
+returns-clause-pages c = λ l off. field-other (λ (it : Leaf). it.mapped) c.args.self.now.leaves.items c.args.leaf l c.set.new.self 0 off
