@@ -3,7 +3,7 @@ use Rattle.std.proofs.Common.{◌≡◌, ◌≢◌, ◌⊎◌, ℕ, ◌+◌, ◌
 use Rattle.std.specs.Prelude.{All, replicate}
 use Rattle.std.proofs.lemmas.List.{get_or-set_same, get_or-set_other, length-set, length-map}
 use Rattle.std.proofs.lemmas.Bool.{cases_eq}
-use Rattle.std.proofs.lemmas.Option.{none-some, same_Some}
+use Rattle.std.proofs.lemmas.Nat.{div-add-mod', mod_below}
 use Rattle.sharers.specs.Shares.{Shares, AreTallied, count_of}
 use Rattle.cow_pages.specs.declared.address.Window.{Window}
 use Rattle.cow_pages.specs.declared.leaf.Entry.{Entry}
@@ -14,11 +14,13 @@ use Rattle.cow_pages.specs.Counts.{count_in}
 use Rattle.cow_pages.specs.Leaf.{present, one_mapped, one_written}
 use Rattle.cow_pages.specs.Tables.{window_of, mapped_one, written_one, mapped_from, written_from}
 use Rattle.cow_pages.specs.Store.{Row, leaf_grid, table_grid, table_entries, bytes_of, frame_sharers, leaf_sharers, pages_kept, place_at, entry_at, mapped_counts, written_counts, mapped_kept, written_kept, CountsSlots, FilledBeside, IsFilled, IsCounted, IsKept, HasRoom, IsStore, IsReady}
-use Rattle.cow_pages.specs.Steps.{SetsEntry, SetsBytes, Recounts, IsCountedAt}
+use Rattle.cow_pages.specs.Grid.{cell}
+use Rattle.cow_pages.specs.Steps.{SetsOwn, Lone, SetsEntry, SetsBytes, Recounts, IsCountedAt}
 use Rattle.cow_pages.proofs.LeafLemmas.{mapped-set, written-set, mapped_there, written_there, mapped-le, written-le, present-there}
 use Rattle.cow_pages.proofs.SharedLemmas.{leaf_length}
 use Rattle.cow_pages.proofs.FlatLemmas.{entry-flat, flat-set, length-flat}
-use Rattle.cow_pages.proofs.ReadLemmas.{place_live}
+use Rattle.cow_pages.proofs.GridLemmas.{cell-column}
+use Rattle.cow_pages.proofs.OpLemmas.{set_entries, put_kept, release_kept}
 use Rattle.cow_pages.proofs.StoreLemmas.{IsCounted-same}
 
 -- the entries of a table are so many
@@ -98,3 +100,57 @@ filled_set s new l a e slots filled grid within room tables pages t i k is = eli
       omega (arith, ap (pages_kept new) here, slots l, present-there (get_or (leaf_grid new) l []) a e at)
   | inr off ↦ omega (arith, pages k off, filled t i k (sym (ap (λ (g : List Row). get_or (get_or g t []) i None) tables) ∙ is) off)
 ]
+
+-- a page of a table's own leaf is below the end of its row
+pub page-below : (s : Store) (t p l : ℕ) → place_at s t (p / 1024) ≡ Some l → p < length (get_or (table_grid s) t []) * 1024
+page-below s t p l place = let column = cell-column (table_grid s) t (p / 1024) l place in omega (arith, column, div-add-mod' p 1024, mod_below p 1024 (omega arith))
+
+-- a store in which an entry was put into a leaf of a table's own
+pub set_store : (s new : Store) (t p l : ℕ) (gone : Option Entry) (e : Entry) → IsReady s t (p / 1024) l → IsTrue (is_in_window p) → entry_at s t p ≡ gone → SetsOwn s new t p l (Some e) → Lone s t p e.frame
+    → Recounts s new t p gone (Some e) → HasRoom new → CountsSlots new → ((k : ℕ) → k ≢ l → pages_kept new k ≡ pages_kept s k) → IsStore new
+set_store s new t p l gone e ready window was sets alone re room slots pages =
+    let also = put_kept s new t p l e ready.kept sets window alone in
+    record {
+      kept = also;
+      room = room;
+      slots = slots;
+      filled = filled_set s new l (p % 1024) e slots ready.filled sets.slot.leaves sets.slot.there sets.slot.room sets.tables.tables pages;
+      counted = counted_set s new t p gone (Some e) ready.kept also was (set_entries s new t p l (Some e) ready.kept sets) re (page-below s t p l ready.place) ready.counted;
+    }
+
+-- one in which an entry was taken from it; the leaf may be left without a page
+pub unset_store : (s new : Store) (t p l : ℕ) (e : Entry) → IsReady s t (p / 1024) l → entry_at s t p ≡ Some e → SetsOwn s new t p l None → Recounts s new t p (Some e) None → HasRoom new → CountsSlots new
+    → ((k : ℕ) → k ≢ l → pages_kept new k ≡ pages_kept s k) → IsReady new t (p / 1024) l
+unset_store s new t p l e ready was sets re room slots pages =
+    let also = release_kept s new t p l ready.kept sets in
+    record {
+      kept = also;
+      room = room;
+      slots = slots;
+      filled = λ u j k is off. omega (arith, pages k off, ready.filled u j k (sym (ap (λ (g : List Row). cell g u j) sets.tables.tables) ∙ is) off);
+      counted = counted_set s new t p (Some e) None ready.kept also was (set_entries s new t p l None ready.kept sets) re (page-below s t p l ready.place) ready.counted;
+      place = ap (λ (g : List Row). cell g t (p / 1024)) sets.tables.tables ∙ ready.place;
+      own = sets.tables.sharers l ∙ ready.own;
+    }
+
+-- a store is ready where a table has a leaf of its own
+pub ready_of : (s : Store) → IsStore s → (t i l : ℕ) → place_at s t i ≡ Some l → leaf_sharers s l ≡ 1 → IsReady s t i l
+ready_of s store t i l place own = record {
+  kept = store.kept;
+  room = store.room;
+  slots = store.slots;
+  filled = λ u j k is off. store.filled u j k is;
+  counted = store.counted;
+  place = place;
+  own = own;
+}
+
+-- and it is a store where that leaf has a page
+pub store_of : (s : Store) (t i l : ℕ) → IsReady s t i l → 0 < pages_kept s l → IsStore s
+store_of s t i l ready some = record {
+  kept = ready.kept;
+  room = ready.room;
+  slots = ready.slots;
+  filled = λ u j k is. elim (cases_eq k l) [ inl here ↦ omega (arith, ap (pages_kept s) here, some) | inr off ↦ ready.filled u j k is off ];
+  counted = ready.counted;
+}
