@@ -21,3 +21,4 @@ pub mod ReadLemmas
 pub mod RoomLemmas
 pub mod StoreLemmas
 pub mod EntryLemmas
+pub mod MapLemmas
