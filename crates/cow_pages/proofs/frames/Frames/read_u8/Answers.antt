@@ -2,7 +2,7 @@ use Rattle.std.proofs.Common.{sym, ◌∙◌, ◌≡◌, ap, subst, arith, ℕ, 
 use Rattle.std.specs.Prelude.{slice_index}
 use Rattle.cow_pages.specs.Address.{offset_of}
 use Rattle.cow_pages.specs.declared.store.Store.{Store}
-use Rattle.cow_pages.specs.Store.{IsStore}
+use Rattle.cow_pages.specs.Store.{shown, IsStore}
 use Rattle.cow_pages.proofs.SoundLemmas.{sound}
 use Rattle.cow_pages.proofs.ReadLemmas.{IsStore-reads, read_within, byte_at-frame, bytes_read}
 use Rattle.cow_pages.proofs.frames.Frames.read_u8.Goals as goal
@@ -26,3 +26,9 @@ returns-clause-value c =
 pub returns-clause-sound : goal.returns-clause-sound
 returns-clause-sound c =
     sound _ (subst IsStore (sym c.read-number.ensures.store) (IsStore-reads c.self.inside.store _ c.self.invariant))
+
+pub invariant_of-self : goal.invariant_of-self
+invariant_of-self c = subst IsStore (sym c.read-number.ensures.store) (IsStore-reads c.self.inside.store _ c.self.invariant)
+
+pub returns-clause-counts : goal.returns-clause-counts
+returns-clause-counts c = rw (← c.self.view_is) (ap shown c.read-number.ensures.store)
