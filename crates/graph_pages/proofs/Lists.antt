@@ -1,13 +1,8 @@
 -- What is in a list.
 use Rattle.std.proofs.Common.{◌≡◌, ◌∙◌, ◌⊎◌, Bool, true, false, cond, List, [], ◌∷◌, ◌++◌, refl, sym, ap, subst, inl, inr, map, filter, true≢false}
 use Rattle.std.specs.Prelude.{◌||◌}
-use Rattle.std.specs.List.{list_any, AllByRecursion}
+use Rattle.std.specs.List.{list_any}
 use Rattle.class_layout.specs.Placing.{IsIn}
-
-pub all-in : {X : Type 0} (P : X → Type 0) (xs : List X) (x : X) → IsIn x xs → AllByRecursion P xs → P x
-all-in P [] x there h = absurd there
-all-in P (y ∷ xs) x (inl e) h = subst P e h.0
-all-in P (y ∷ xs) x (inr there) h = all-in P xs x there h.1
 
 pub in-filter : {X : Type 0} (p : X → Bool) (xs : List X) (x : X) → IsIn x (filter p xs) → IsIn x xs × (p x ≡ true)
 in-filter p [] x there = absurd there
