@@ -156,7 +156,7 @@ module _ (homes : Homes) (cs : List Class) (budget last : ℕ) (regions : AreNum
       let inside : IsInRegion (packing.place end s) s = (are_packed end (s ∷ []) (omega (arith, size-least cs x), (small x (inl refl)).1 young, tt)).1 in
       let behind : end_behind cs end x x.place ≡ packing.place end s + s = ap (end_behind cs end x) young in
       let below = region-below homes cs budget last regions slots few house other.0 (omega (arith, other.3, size-least cs o)) in
-      subst (λ a. Beside a s _ (size_of_object cs o)) (sym at) (subst (λ b. Beside (packed_at homes.regions (packing.place end s)) s b (size_of_object cs o)) (sym other.1)
+      subst (λ a. Beside a s (table_from homes cs (end_behind cs end x x.place) (large_behind large x.place) os o.number) (size_of_object cs o)) (sym at) (subst (λ b. Beside (packed_at homes.regions (packing.place end s)) s b (size_of_object cs o)) (sym other.1)
       (young-pair homes.regions (2 * budget) (packing.place end s) s other.0 (size_of_object cs o) regions inside other.4 (omega (arith, size-least cs x)) (omega (arith, size-least cs o)) (omega (arith, other.2, behind)) below.0)))
 
   -- any two objects
