@@ -1,8 +1,7 @@
 -- Two objects stand in bytes of their own.
-use Rattle.std.proofs.Common.{◌≡◌, ◌∙◌, ◌⊎◌, ℕ, ◌+◌, ◌-◌, ◌*◌, ◌/◌, ◌%◌, ◌<◌, ◌≤◌, false, List, [], ◌∷◌, length, slice_index, refl, sym, ap, subst, inl, inr, arith}
+use Rattle.std.proofs.Common.{◌≡◌, ◌∙◌, ◌⊎◌, ℕ, ◌+◌, ◌*◌, ◌/◌, ◌<◌, ◌≤◌, false, List, [], ◌∷◌, length, slice_index, refl, sym, ap, subst, inl, inr, arith}
 use Rattle.std.specs.List.{AllByRecursion}
 use Rattle.std.proofs.lemmas.Bool.{cases_eq, cases_lt}
-use Rattle.model_numbers.specs.Numbers.{region_bytes}
 use Rattle.class_layout.specs.ClassList.{Class}
 use Rattle.class_layout.specs.Placing.{IsIn}
 use Rattle.heap_graph.specs.declared.names.Place.{Place}
@@ -11,7 +10,7 @@ use Rattle.heap_graph.specs.declared.names.Shape.{Shape}
 use Rattle.heap_graph.specs.declared.names.Shape.TheVariants as shape
 use Rattle.heap_graph.specs.Graph.{Graph, Object, image_size, size_of_object}
 use Rattle.heap_graph.specs.Packing as packing
-use Rattle.heap_graph.specs.Paths.{FitsRegion, IsInRegion}
+use Rattle.heap_graph.specs.Paths.{IsInRegion}
 use Rattle.heap_graph.specs.Sizes.{is_large, is_too_large}
 use Rattle.heap_graph.proofs.Packing.{are_packed}
 use Rattle.heap_graph.proofs.Sizes.{not-large, size-least, young-packed}

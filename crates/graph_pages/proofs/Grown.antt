@@ -1,5 +1,5 @@
 -- A graph with one object more, under the computed table.
-use Rattle.std.proofs.Common.{◌≡◌, ◌≢◌, ◌∙◌, ◌⊎◌, ℕ, ◌+◌, ◌<◌, ◌≤◌, true, List, [], ◌∷◌, ◌++◌, refl, sym, ap, subst, inl, inr, arith}
+use Rattle.std.proofs.Common.{◌≡◌, ◌∙◌, ℕ, ◌+◌, ◌<◌, List, [], ◌∷◌, refl, sym, ap, inl, inr, arith}
 use Rattle.std.specs.Prelude.{nat_eq}
 use Rattle.std.proofs.lemmas.Bool.{cases_order, eqb-true}
 use Rattle.class_layout.specs.declared.kind.FieldAt.{FieldAt}
@@ -16,7 +16,7 @@ use Rattle.heap_graph.specs.Sizes.{size_in}
 use Rattle.heap_graph.specs.Values.{targets, value_at}
 use Rattle.heap_graph.proofs.Lists.{any-flat_map, any-map}
 use Rattle.heap_world.specs.Formed.{AreRising, IsFormed}
-use Rattle.object_view.specs.Seen.{seen_value, value_in}
+use Rattle.object_view.specs.Seen.{seen_value}
 use Rattle.address_table.specs.Computed.{table_of, Homes, HouseAll}
 use Rattle.address_table.proofs.Beside.{computed-apart}
 use Rattle.address_table.proofs.Fitting.{fits}

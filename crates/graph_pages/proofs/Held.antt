@@ -1,5 +1,5 @@
 -- A graph whose pages hold it, after a store and with a new object.
-use Rattle.std.proofs.Common.{◌≡◌, ◌∙◌, ℕ, ◌+◌, ◌*◌, ◌%◌, ◌^◌, ◌<◌, ◌≤◌, Bool, true, List, IsTrue, refl, sym, ap, subst, arith}
+use Rattle.std.proofs.Common.{◌≡◌, ◌∙◌, ℕ, ◌+◌, ◌%◌, ◌^◌, ◌<◌, IsTrue, sym, ap, arith}
 use Rattle.class_layout.specs.declared.kind.Kind.{Kind}
 use Rattle.class_layout.specs.declared.kind.Kind.TheVariants.{Ref, Boolean, Byte, Char, Short, Int, Long}
 use Rattle.class_layout.specs.declared.kind.FieldAt.{FieldAt}
@@ -10,7 +10,6 @@ use Rattle.cow_pages.specs.View.{view_of}
 use Rattle.heap_graph.specs.declared.names.Stored.{Stored}
 use Rattle.heap_graph.specs.Graph.{Graph, Object}
 use Rattle.heap_world.specs.Acts.{stored_in, with_slot}
-use Rattle.object_view.specs.Objects.{IsSpace}
 use Rattle.object_view.specs.Seen.{HasValue}
 use Rattle.object_view.proofs.Laid.{bytes-low, place-within}
 use Rattle.address_table.specs.Computed.{table_of, Homes}

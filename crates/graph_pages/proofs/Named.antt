@@ -1,9 +1,8 @@
 -- The pages of page names.
-use Rattle.std.proofs.Common.{◌≡◌, ◌∙◌, ◌⊎◌, ℕ, zero, suc, ◌+◌, ◌-◌, ◌*◌, ◌/◌, ◌<◌, ◌≤◌, Bool, true, false, List, [], ◌∷◌, refl, sym, ap, subst, inl, inr, arith, true≢false}
+use Rattle.std.proofs.Common.{◌≡◌, ◌∙◌, ℕ, ◌+◌, ◌-◌, ◌*◌, ◌<◌, ◌≤◌, true, List, [], ◌∷◌, refl, sym, ap, subst, inl, inr, arith, true≢false}
 use Rattle.std.specs.Prelude.{nat_eq, nat_lt, ◌&&◌}
-use Rattle.std.specs.List.{list_any}
 use Rattle.std.proofs.lemmas.Bool.{and_from, and_parts, cases_lt, eqb-true, le-leb, lt-ltb, ltb-true}
-use Rattle.model_numbers.specs.Numbers.{image_base, page_bytes, zygote_base}
+use Rattle.model_numbers.specs.Numbers.{page_bytes, zygote_base}
 use Rattle.class_layout.specs.ClassList.{Class}
 use Rattle.class_layout.specs.Placing.{IsIn}
 use Rattle.cow_pages.specs.declared.address.Window.{Window}
@@ -14,7 +13,7 @@ use Rattle.heap_graph.specs.declared.names.Place.{Place}
 use Rattle.heap_graph.specs.declared.names.Place.TheVariants as place
 use Rattle.heap_graph.specs.Graph.{Graph, Object, image_fill, image_size, zygote_fill}
 use Rattle.heap_graph.specs.Sizes.{parts_for, size_in, unrounded}
-use Rattle.heap_graph.specs.Table.{Fits, IsPlacedAt, IsSlot}
+use Rattle.heap_graph.specs.Table.{IsPlacedAt, IsSlot}
 use Rattle.heap_graph.proofs.Sizes.{not-large}
 use Rattle.heap_graph.proofs.Totals.{total}
 use Rattle.heap_world.specs.declared.names.PageName.{PageName}
@@ -133,7 +132,7 @@ module _ (homes : Homes) (g : Graph) (formed : IsFormed g) (house : HouseAll hom
       let pages : one.slot * 256 + j ≡ two.slot * 256 + k = omega (arith, e, one.at_is, two.at_is) in
       let slots : one.slot ≡ two.slot = omega (arith, pages, one.small, two.small) in
       let same : one.object ≡ two.object = (fits homes g formed house).apart one.object two.object one.is_in two.is_in
-          (ap table one.number_is ∙ one.at_is ∙ ap (λ s. 0x80000000 + s * 1048576) slots ∙ sym two.at_is ∙ ap table (sym two.number_is)) in
+      (ap table one.number_is ∙ one.at_is ∙ ap (λ s. 0x80000000 + s * 1048576) slots ∙ sym two.at_is ∙ ap table (sym two.number_is)) in
       let numbers : m ≡ n = sym one.number_is ∙ ap (λ (o : Object). o.number) same ∙ two.number_is in
       ap (λ x. Large x j) numbers ∙ ap (λ x. Large n x) (omega (arith, pages, slots))
 

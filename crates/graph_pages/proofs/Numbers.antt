@@ -1,6 +1,5 @@
 -- Rising numbers differ.
-use Rattle.std.proofs.Common.{◌≡◌, ◌∙◌, ℕ, ◌+◌, ◌≤◌, List, [], ◌∷◌, sym, ap, inl, inr, arith}
-use Rattle.class_layout.specs.Placing.{IsIn}
+use Rattle.std.proofs.Common.{◌≡◌, ◌∙◌, ℕ, ◌+◌, List, [], ◌∷◌, sym, ap, inl, inr, arith}
 use Rattle.heap_graph.specs.Graph.{Object}
 use Rattle.heap_world.specs.Formed.{AreRising}
 use Rattle.address_table.proofs.Behind.{rising-in}

@@ -8,7 +8,7 @@ use Rattle.class_layout.specs.Placing.{IsIn}
 use Rattle.cow_pages.specs.View.{View}
 use Rattle.heap_graph.specs.declared.names.Place.TheVariants.{Young}
 use Rattle.heap_graph.specs.declared.names.Shape.TheVariants.{Array}
-use Rattle.heap_graph.specs.Graph.{Graph, Object}
+use Rattle.heap_graph.specs.Graph.{Object}
 use Rattle.heap_graph.specs.Sizes.{size_in}
 use Rattle.object_view.specs.declared.names.Header.TheVariants.{Number}
 use Rattle.object_view.specs.Objects.{IsKnown}

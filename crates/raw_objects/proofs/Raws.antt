@@ -1,5 +1,5 @@
 -- What changes in the objects that memory holds.
-use Rattle.std.proofs.Common.{◌≡◌, ◌∙◌, ℕ, ◌+◌, ◌<◌, ◌≤◌, ◌%◌, ◌^◌, ◌⊎◌, Bool, true, false, cond, List, refl, sym, ap, subst, inl, inr, arith, ℤ}
+use Rattle.std.proofs.Common.{◌≡◌, ◌∙◌, ℕ, ◌+◌, ◌<◌, ◌≤◌, ◌%◌, ◌^◌, Bool, true, false, cond, List, refl, sym, ap, subst, inl, inr, arith, ℤ}
 use Rattle.std.specs.Prelude.{nat_eq, if◌then◌else◌, ◌||◌}
 use Rattle.std.proofs.lemmas.Bool.{cases_eq, cases_order, or_cases, eq-eqb, ne_eqb, eqb-true}
 use Rattle.class_layout.specs.declared.kind.Kind.{Kind}

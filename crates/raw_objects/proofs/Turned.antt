@@ -15,7 +15,7 @@ use Rattle.heap_graph.specs.declared.names.Shape.{Shape}
 use Rattle.heap_graph.specs.Sizes.{size_in}
 use Rattle.object_view.specs.declared.names.Slot.{Slot}
 use Rattle.object_view.specs.Changes.{PutsNumber}
-use Rattle.object_view.specs.Objects.{places_of, reference_count, reference_place, slot_at, HasHeader, HasShape, IsObject, IsPlace, Stands}
+use Rattle.object_view.specs.Objects.{places_of, reference_count, reference_place, slot_at, IsObject, IsPlace, Stands}
 use Rattle.object_view.specs.Values.{is_value, number_of}
 use Rattle.object_view.proofs.Laid.{bytes-low, one-place, place-within, ref-kind, reference-in, references-rise}
 use Rattle.object_view.proofs.Lookups.{address-fits, SameView-reads}
@@ -23,7 +23,7 @@ use Rattle.object_view.proofs.Standing.{HasHeader-stands, HasShape-stands}
 use Rattle.object_view.proofs.Stores.{loaded}
 use Rattle.object_view.proofs.References.{references-each, references-none}
 use Rattle.raw_objects.specs.Raws.{Raw, Raws, HoldsRaws, SameRaw, SameRaws, stored, stored_raw}
-use Rattle.raw_objects.specs.References.{address_in, goes, in_regions, is_first_reference, is_reference, stands_at, turned, turned_raw, turned_where, IsReadable, IsSlotIn, IsTurnable}
+use Rattle.raw_objects.specs.References.{address_in, goes, in_regions, is_first_reference, is_reference, stands_at, turned, turned_where, IsReadable, IsSlotIn, IsTurnable}
 use Rattle.raw_objects.proofs.Raws.{at-here, at-other, raws-same, raws-seen, raws-stored}
 
 -- two tests that agree on the references turn the same ones
@@ -142,7 +142,7 @@ module _ (cs : List Class) (v : View) (raws : Raws) (done : ℕ → Bool) (at ta
                   either (next (it.object + p.offset)) _ _ turns' ∙ sym (either (done (it.object + p.offset)) _ _ turns')
               | inr ne ↦
                   ap (λ b. cond (b || done (it.object + p.offset)) (turned raws p ((raws.raw it.object).values p)) ((raws.raw it.object).values p))
-                      (ne_eqb at (it.object + p.offset) (λ e. ne (omega (arith, it.at_is, e))))
+                  (ne_eqb at (it.object + p.offset) (λ e. ne (omega (arith, it.at_is, e))))
             ];
           })
           | inr ne ↦ slot-beside a is ne
@@ -224,7 +224,7 @@ turning cs u v raws done at k slot ok h found = by (reference_place cs (raws.raw
         let stands : Stands cs v at r.shape r.header x.values = h.stands at ok.has in
         let undone : x.values place ≡ r.values place =
         ap (λ b. cond b (turned raws place (r.values place)) (r.values place))
-            (ap (λ b. b || done (at + place.offset)) (first-not cs r.shape at k k place (omega arith) is) ∙ ok.undone place there.0 there.1) in
+        (ap (λ b. b || done (at + place.offset)) (first-not cs r.shape at k k place (omega arith) is) ∙ ok.undone place there.0 there.1) in
         let target = ok.targets place there.0 there.1 in
         let fits : is_value Ref (x.values place) ≡ true = ap (is_value Ref) (undone ∙ target.is) ∙ address-fits target.address target.below in
         let value : pos slot.target.0 ≡ x.values place = ap (λ (s : Slot). pos s.target.0) same ∙ loaded cs v at r.shape r.header x.values Ref place.offset place stands in_place fits in
@@ -261,9 +261,9 @@ first-more cs v w raws done at k slot it h =
     subst (λ n. HoldsRaws cs w (turned_first cs raws done at n)) (sym (add-one k))
     (raws-same cs w _ (turned_first cs raws done at (suc k)) h (same-turned cs raws
     (λ b. nat_eq slot.at.0 b || (is_first_reference cs shape at k b || done b)) (λ b. is_first_reference cs shape at (suc k) b || done b) (λ a p has within kind.
-        let b : ℕ = a + p.offset in
-        ap (λ n. nat_eq n b || (is_first_reference cs shape at k b || done b)) it.at_is ∙ regroup (nat_eq (at + it.place.offset) b) (is_first_reference cs shape at k b) (done b)
-        ∙ ap (λ o. (stands_at o at b || is_first_reference cs shape at k b) || done b) (sym it.is))))
+    let b : ℕ = a + p.offset in
+    ap (λ n. nat_eq n b || (is_first_reference cs shape at k b || done b)) it.at_is ∙ regroup (nat_eq (at + it.place.offset) b) (is_first_reference cs shape at k b) (done b)
+    ∙ ap (λ o. (stands_at o at b || is_first_reference cs shape at k b) || done b) (sym it.is))))
 
 -- its end
 pub first-last : (cs : List Class) (v : View) (raws : Raws) (done : ℕ → Bool) (at k : ℕ) → reference_place cs (raws.raw at).shape k ≡ None → HoldsRaws cs v (turned_first cs raws done at k)

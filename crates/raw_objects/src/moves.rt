@@ -70,12 +70,7 @@ fn in_regions(at: Addr) -> bool
 }
 
 /// Turns one reference, which holds `target`, to where its target is now.
-pub fn turn_slot(
-    frames: &mut Frames,
-    t: TableNo,
-    at: Addr,
-    target: Addr,
-) -> Result<(), AllocError>
+pub fn turn_slot(frames: &mut Frames, t: TableNo, at: Addr, target: Addr) -> Result<(), AllocError>
     requires aligned { at.0 % 4 ≡ 0 }
     requires mapped { IsTrue (is_mapped frames.old t.0 (page_of at.0)) }
     requires readable { IsReadable (view_of frames.old t.0) target.0 }

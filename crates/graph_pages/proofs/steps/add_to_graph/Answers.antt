@@ -1,4 +1,4 @@
-use Rattle.std.proofs.Common.{◌≡◌, ◌∙◌, ◌++◌, ◌∷◌, [], ℕ, List, true, refl, sym, ap, subst}
+use Rattle.std.proofs.Common.{◌∙◌, [], ℕ, List, true, refl, sym, subst}
 use Rattle.std.proofs.lemmas.Result.{on_ok_weaker}
 use Rattle.class_layout.specs.ClassList.{Class}
 use Rattle.cow_pages.specs.View.{view_of}

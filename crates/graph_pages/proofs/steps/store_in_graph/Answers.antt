@@ -3,7 +3,6 @@ use Rattle.std.specs.Int.{w64}
 use Rattle.std.proofs.lemmas.Int.{to_z-of_z}
 use Rattle.std.proofs.lemmas.Result.{on_ok_weaker}
 use Rattle.cow_pages.specs.View.{view_of}
-use Rattle.heap_graph.specs.Graph.{Graph}
 use Rattle.object_view.specs.Objects.{IsPlace}
 use Rattle.raw_objects.specs.Raws.{stored, HoldsRaws, Raw, Raws}
 use Rattle.address_table.specs.Computed.{table_of}

@@ -1,4 +1,3 @@
-use Rattle.std.proofs.Common.{◌≡◌}
 use Rattle.raw_objects.specs.References.{turned_where}
 use Rattle.raw_objects.proofs.Raws.{raws-same}
 use Rattle.raw_objects.proofs.Turned.{none-turned, one-turned, same-turned, slot-readable}
