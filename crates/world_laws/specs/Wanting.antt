@@ -1,11 +1,14 @@
 -- What may be left of a world where memory was wanting for a command: the world before it, or how far its line had come.
-use Rattle.std.specs.Prelude.{ℕ, Bool, true, false, List, [], ◌∷◌, length, take}
+use Rattle.std.specs.Prelude.{◌≡◌, ◌⊎◌, ℕ, Bool, true, false, List, [], ◌∷◌, Some, length, take}
+use Rattle.heap_graph.specs.Collection.{collect}
 use Rattle.heap_world.specs.declared.command.Command.{Command}
 use Rattle.heap_world.specs.declared.command.Verb.{Verb}
 use Rattle.heap_world.specs.declared.command.Verb.TheVariants as verb
 use Rattle.heap_world.specs.declared.reply.Reply.{Reply}
 use Rattle.heap_world.specs.declared.reply.Reply.TheVariants as reply
-use Rattle.heap_world.specs.World.{World, step}
+use Rattle.heap_world.specs.Acts.{fork_part}
+use Rattle.heap_world.specs.Part.{with_collected}
+use Rattle.heap_world.specs.World.{Process, World, process_after, process_named, put_process, step}
 use Rattle.world_laws.specs.Effects.{is_full}
 
 -- a command with this reply collected: it made an object after a collection, was `gc` or a fork, or found the heap full
@@ -38,3 +41,9 @@ worlds_between false w line c = []
 -- for a fork, as its promotion leaves it, without the child
 abbrev pub left_worlds : World → ℕ → Command → List World
 left_worlds w line c = w ∷ worlds_between (collects c.verb (step w line c).reply) w line c
+
+-- the process of a name was collected, or promoted as by a fork, and all else is as it was
+abbrev pub CameOnAlone : World → ℕ → List ℕ → World → Type 0
+CameOnAlone w line name left =
+    (q : Process) × (process_named w.processes name ≡ Some q)
+    × ((left ≡ put_process w (record q { part = with_collected q.part (collect q.part.graph) })) ⊎ (left ≡ put_process w (process_after line (fork_part q.part) q)))
