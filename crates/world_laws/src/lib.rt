@@ -21,5 +21,6 @@ pub use parts::{
     outward_slots_are_touched, slots_note_their_own_card, stores_touch_their_own_page,
 };
 pub use worlds::{
-    left_worlds_stay_in_order, refused_lines_leave_the_world, worlds_are_sound, worlds_stay_in_order,
+    left_worlds_stay_in_order, refused_lines_leave_the_world, worlds_are_sound,
+    worlds_stay_in_order,
 };
