@@ -30,7 +30,7 @@ pub record ArePossible (qs : List Process) : Type 0 where
   pub sound : AreSound qs
 
 -- what contracts see of a machine: for the machine that keeps a world as it is, the world
-abbrev pub Meaning : Type 1
+abbrev pub Meaning : Type 0
 Meaning = World
 
 -- a machine stands for a world. The machine that keeps a world as it is stands for that world alone
