@@ -22,7 +22,7 @@ use Rattle.artheap_top.specs.Soaking.{EndedSoak, HasSoaked, LeftBetween, counted
 use Rattle.artheap_top.specs.Summary.{collection_count, refusal_count, summary, summary_of, summary_text, tells_collection}
 use Rattle.script_report.proofs.Reports.{answers-more, next_answers, world-more}
 use Rattle.script_report.proofs.Wanting.{before_left, labels_of_lines}
-use Rattle.script_report.specs.Wanting.{left_behind, left_between}
+use Rattle.script_report.specs.Wanting.{left_behind, left_between, line_left}
 use Rattle.world_laws.specs.Labels.{AreEarlier}
 
 -- how many of the answers with one more pass a test
@@ -141,6 +141,13 @@ next_is_later budget before t machine had =
     let at : 1 + length before ≡ t.lines + 1 = omega (arith, had.lines) in
     subst (λ k. AreEarlier k (world_of budget before)) at (labels_of_lines budget before)
 
+-- where memory was wanting for it, the machine stands for a world that it may leave
+pub left_here : (budget : ℕ) (before : List (List ℕ)) (line : List ℕ) (t : Tally) (machine machine' : Meaning)
+    → HasSoaked budget before t machine → StandsAmong machine' (line_left (world_of budget before) (t.lines + 1) line) → StandsAmong machine' (left_behind budget before line)
+left_here budget before line t machine machine' had stands =
+    let at : t.lines + 1 ≡ 1 + length before = omega (arith, had.lines) in
+    subst (λ k. StandsAmong machine' (line_left (world_of budget before) k line)) at stands
+
 -- a line that is found in a list stands between others
 found_between : (xs : List (List ℕ)) (k : ℕ) (x : List ℕ) → slice_get xs k ≡ Some x → (rest : List (List ℕ)) × (xs ≡ take k xs ++ x ∷ rest)
 found_between [] k x found = absurd cc
@@ -162,11 +169,11 @@ module _ (budget : ℕ) (before : List (List ℕ)) (machine : Meaning) where
       let more = found_between ls k line found in
       record { done = take k ls; rest = line ∷ more.0; are = more.1; stands = stands }
 
-  pub left_made : (n count : ℕ) (s : MakeState) (line : List ℕ) → n < count → line ≡ made_line (state_after n s) → StandsAmong machine (left_behind budget (before ++ made_lines n s) line)
+  pub left_made : (n count : ℕ) (s : MakeState) (line : List ℕ) → n < count → made_line (state_after n s) ≡ line → StandsAmong machine (left_behind budget (before ++ made_lines n s) line)
       → LeftBetween budget before (made_lines count s) machine
   left_made n count s line within is stands =
       let more = made_between n count s within in
-      record { done = made_lines n s; rest = line ∷ more.0; are = more.1 ∙ ap (λ (l : List ℕ). made_lines n s ++ l ∷ more.0) (sym is); stands = stands }
+      record { done = made_lines n s; rest = line ∷ more.0; are = more.1 ∙ ap (λ (l : List ℕ). made_lines n s ++ l ∷ more.0) is; stands = stands }
 
   -- with more lines behind, and in front
   pub left_more : (ls more : List (List ℕ)) → LeftBetween budget before ls machine → LeftBetween budget before (ls ++ more) machine

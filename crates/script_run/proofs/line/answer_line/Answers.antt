@@ -1,4 +1,5 @@
-use Rattle.std.proofs.Common.{[], List, ◌∙◌, ap, refl, subst, sym}
+use Rattle.std.proofs.Common.{inl, [], List, ◌∙◌, ap, refl, subst, sym}
+use Rattle.std.proofs.lemmas.Result.{err_from_is_err_and}
 use Rattle.heap_world.specs.Run.{Answer}
 use Rattle.script_lang.specs.FedLines.{fed_line}
 use Rattle.script_report.specs.Report.{LineDone, step_line, with_answer}
@@ -36,3 +37,9 @@ returns-in-Err-clause-done g c = λ w line stands earlier kept.
     subst (λ s. StoppedLine s c.args.time n d (line_left w n line) old new) (sym c.dump_stop.ensures)
     (stops_dumping c.args.time n d (line_left w n line) old new (c.add_asked.ensures.stands d.world after) c.in-Err.e
     (c.in-Err.ensures.done d.world d.dumps after (c.in_ok-answered.ensures.dumped w line stands earlier kept)) c.in-Err.ensures.cause refl)
+
+pub returns-in_err-answered-clause-done : goal.returns-in_err-answered-clause-done
+returns-in_err-answered-clause-done g c = λ w line stands earlier kept.
+    let p = err_from_is_err_and c.from_residual.result c.from_residual.ensures.1 in
+    rw (p.1, p.2)
+    (inl (record { report = refl; dumps = refl; stands = c.in_err-answered.ensures.left w line stands earlier kept }))
