@@ -86,7 +86,7 @@ module _ (budget number : ℕ) where
   }
 
 -- before a later line
-later_line : (n m : ℕ) (w : World) → n ≤ m → IsInOrder n w → IsInOrder m w
+pub later_line : (n m : ℕ) (w : World) → n ≤ m → IsInOrder n w → IsInOrder m w
 later_line n m w le order = record {
   sound = order.sound;
   earlier = λ q there. all-weaken (λ l. l.line < n) (λ l. l.line < m) (λ l less. omega (arith, less, le)) q.labels (order.earlier q there);
