@@ -66,13 +66,13 @@ module _ (homes : Homes) (g : Graph) (formed : IsFormed g) (house : HouseAll hom
   last : ℕ
   last = last_end g.classes 0 g.objects
 
-  roomy : (last_end g.classes 0 g.objects + 262143) / 262144 ≤ length homes.regions
+  pub roomy : (last_end g.classes 0 g.objects + 262143) / 262144 ≤ length homes.regions
   roomy = omega (arith, used-is g, last-is g.classes 0 g.objects, house.for_young)
 
   few : g.budget ≤ 512
   few = formed.budget
 
-  rest : Rest homes g.classes g.budget (last_end g.classes 0 g.objects) 0 0 0 0 g.objects
+  pub rest : Rest homes g.classes g.budget (last_end g.classes 0 g.objects) 0 0 0 0 g.objects
   rest =
       let placed = placed_of g formed in
       record {

@@ -33,7 +33,8 @@ use Rattle.object_view.specs.Seen.{seen_value, value_in}
 use Rattle.graph_pages.specs.Holds.{raw_under, HoldsGraph}
 use Rattle.graph_pages.specs.Collected.{keeps, turned_by, AreTurned, Going}
 use Rattle.graph_pages.proofs.Graphs.{raws-graph}
-use Rattle.graph_pages.proofs.Lists.{all-in, any-from, any-to, filter-in, in-filter, in-map, map-in}
+use Rattle.address_table.proofs.Beside.{all-in}
+use Rattle.graph_pages.proofs.Lists.{any-from, any-to, filter-in, in-filter, in-map, map-in}
 
 pub slots-in : (cs : List Class) (os : List Object) (o : Object) → IsIn o os → AreObjects cs os → AreSlots cs o.shape o.slots
 slots-in cs [] o there h = absurd there
