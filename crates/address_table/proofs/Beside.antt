@@ -14,7 +14,7 @@ use Rattle.heap_graph.specs.Paths.{IsInRegion}
 use Rattle.heap_graph.specs.Sizes.{is_large, is_too_large}
 use Rattle.heap_graph.proofs.Packing.{are_packed}
 use Rattle.heap_graph.proofs.Sizes.{not-large, size-least, young-packed}
-use Rattle.heap_world.specs.Formed.{AreObjects, AreRising, IsBehindImage, IsBehindZygote, IsFormed, IsShape, SuitsShape, zygote_next}
+use Rattle.heap_graph.specs.Formed.{AreObjects, AreRising, IsBehindImage, IsBehindZygote, IsFormed, IsShape, SuitsShape, zygote_next}
 use Rattle.address_table.specs.Computed.{address_in, end_behind, large_behind, packed_at, slot_at, table_from, table_of, AreNumbers, Homes, HouseAll}
 use Rattle.address_table.proofs.Behind.{all-behind, first-behind, last_end, last-rises, region-below, rest-tail, rising-in, table-first, table-later, Behind, Rest}
 use Rattle.address_table.proofs.Fitting.{rest, roomy}

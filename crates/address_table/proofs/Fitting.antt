@@ -9,7 +9,7 @@ use Rattle.heap_graph.specs.declared.names.Place.{Place}
 use Rattle.heap_graph.specs.declared.names.Place.TheVariants as place
 use Rattle.heap_graph.specs.Graph.{Graph, Object, object_at}
 use Rattle.heap_graph.specs.Table.{packing, region_of, Fits, IsPackedAt, IsPlacedAt}
-use Rattle.heap_world.specs.Formed.{IsFormed}
+use Rattle.heap_graph.specs.Formed.{IsFormed}
 use Rattle.heap_world.proofs.Placed.{placed_of, used-is, young_end, young_next}
 use Rattle.address_table.specs.Computed.{address_in, end_behind, large_behind, packed_at, table_from, table_of, Homes, HouseAll}
 use Rattle.address_table.proofs.Behind.{all-behind, last_end, region-below, Behind, Rest}

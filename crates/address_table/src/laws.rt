@@ -3,7 +3,7 @@ ghost use Rattle.std.specs.Prelude.{◌≡◌, ◌≢◌, ℕ, ◌+◌, ◌<◌,
 ghost use Rattle.class_layout.specs.Placing.{IsIn};
 ghost use Rattle.heap_graph.specs.Graph.{Graph, Object, object_at, size_of_object};
 ghost use Rattle.heap_graph.specs.Table.{Fits};
-ghost use Rattle.heap_world.specs.Formed.{IsFormed};
+ghost use Rattle.heap_graph.specs.Formed.{IsFormed};
 ghost use Rattle.address_table.specs.Computed.{addresses_from, first_homes, table_of, Homes, HouseAll};
 
 /// The computed table of a formed graph follows the rules of the heap, whichever regions and slots it is computed from.

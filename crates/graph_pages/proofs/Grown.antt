@@ -15,7 +15,7 @@ use Rattle.heap_graph.specs.Reach.{is_among}
 use Rattle.heap_graph.specs.Sizes.{size_in}
 use Rattle.heap_graph.specs.Values.{targets, value_at}
 use Rattle.heap_graph.proofs.Lists.{any-flat_map, any-map}
-use Rattle.heap_world.specs.Formed.{AreRising, IsFormed}
+use Rattle.heap_graph.specs.Formed.{AreRising, IsFormed}
 use Rattle.object_view.specs.Seen.{seen_value}
 use Rattle.address_table.specs.Computed.{table_of, Homes, HouseAll}
 use Rattle.address_table.proofs.Beside.{computed-apart}

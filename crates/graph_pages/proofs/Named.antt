@@ -18,7 +18,7 @@ use Rattle.heap_graph.proofs.Sizes.{not-large}
 use Rattle.heap_graph.proofs.Totals.{total}
 use Rattle.heap_world.specs.declared.names.PageName.{PageName}
 use Rattle.heap_world.specs.declared.names.PageName.TheVariants.{Image, Zygote, Large}
-use Rattle.heap_world.specs.Formed.{FillImage, FillZygote, IsBehindImage, IsBehindZygote, IsFormed, zygote_next}
+use Rattle.heap_graph.specs.Formed.{FillImage, FillZygote, IsBehindImage, IsBehindZygote, IsFormed, zygote_next}
 use Rattle.heap_world.proofs.Placed.{fill-is, top-is, zygote_top}
 use Rattle.object_view.proofs.Laid.{size-bounds}
 use Rattle.address_table.specs.Computed.{table_of, Homes, HouseAll}

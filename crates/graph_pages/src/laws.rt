@@ -15,7 +15,7 @@ ghost use Rattle.heap_graph.specs.Collection.{collect};
 ghost use Rattle.heap_graph.specs.Graph.{Graph, Object};
 ghost use Rattle.heap_graph.specs.Sizes.{size_in};
 ghost use Rattle.heap_world.specs.Acts.{stored_in, with_slot};
-ghost use Rattle.heap_world.specs.Formed.{IsFormed};
+ghost use Rattle.heap_graph.specs.Formed.{IsFormed};
 ghost use Rattle.object_view.specs.Changes.{ChangesWithin, PutsNumber};
 ghost use Rattle.object_view.specs.Objects.{IsKnown, IsPlace};
 ghost use Rattle.object_view.specs.Seen.{seen_value};

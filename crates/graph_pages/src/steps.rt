@@ -11,7 +11,7 @@ ghost use Rattle.heap_graph.specs.Allocation.{with_object};
 ghost use Rattle.heap_graph.specs.Graph.{Graph, Object};
 ghost use Rattle.heap_graph.specs.Sizes.{size_in};
 ghost use Rattle.heap_world.specs.Acts.{with_slot};
-ghost use Rattle.heap_world.specs.Formed.{IsFormed};
+ghost use Rattle.heap_graph.specs.Formed.{IsFormed};
 ghost use Rattle.object_view.specs.Changes.{pages_in, AreAlone, AreWritten};
 ghost use Rattle.object_view.specs.Objects.{IsKnown, IsSpace};
 ghost use Rattle.object_view.specs.Seen.{seen_value, HasValue};

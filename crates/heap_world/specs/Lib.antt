@@ -1,8 +1,8 @@
 pub mod Acts
 pub mod Cards
+pub mod Commands
 pub mod Effect
 pub mod Examples
-pub mod Formed
 pub mod Isolation
 pub mod Pages
 pub mod Part

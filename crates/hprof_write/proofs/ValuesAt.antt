@@ -13,7 +13,7 @@ use Rattle.class_layout.specs.Kinds.{first_element, kind_bytes}
 use Rattle.class_layout.specs.Layout.{field_named}
 use Rattle.class_layout.specs.Placing.{IsIn}
 use Rattle.heap_graph.specs.Graph.{Graph, Object}
-use Rattle.object_view.specs.Objects.{element, elements_from, places_of}
+use Rattle.heap_graph.specs.Places.{element, elements_from, places_of}
 use Rattle.object_view.specs.Seen.{HasValue, RoseBy, count_if, value_in}
 use Rattle.hprof_write.specs.Objects.{HasValues, no_place, own_places, place_named, value_bytes, values_bytes}
 use Rattle.hprof_write.proofs.TableLines.{take-more}

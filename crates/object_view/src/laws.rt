@@ -15,7 +15,8 @@ ghost use Rattle.heap_graph.specs.Sizes.{size_in};
 ghost use Rattle.object_view.specs.declared.names.Header.{Header};
 ghost use Rattle.object_view.specs.declared.names.Header.TheVariants.{Forward};
 ghost use Rattle.object_view.specs.Changes.{ChangesPages, ChangesWithin, HasBytes, PutsNumber};
-ghost use Rattle.object_view.specs.Objects.{element, places_of, reference_count, reference_place, HasHeader, HasShape, IsKnown, IsPlace, IsSpace, Stands};
+ghost use Rattle.heap_graph.specs.Places.{element, places_of};
+ghost use Rattle.object_view.specs.Objects.{reference_count, reference_place, HasHeader, HasShape, IsKnown, IsPlace, IsSpace, Stands};
 ghost use Rattle.object_view.specs.Values.{is_value, number_at, number_of, value_of, with_value, AreBytes};
 ghost use Rattle.object_view.specs.Words.{head_end, lock_word};
 
@@ -39,11 +40,6 @@ pub fn places_lie_in_objects()
     ensures reference { (cs : List Class) (shape : Shape) (k : ℕ) (place : FieldAt) → reference_place cs shape k ≡ Some place → IsPlace cs shape Kind.Ref place.offset place }
     ensures within { (cs : List Class) (shape : Shape) (kind : Kind) (offset : ℕ) (place : FieldAt) → IsPlace cs shape kind offset place
         → (head_end shape ≤ offset) × (offset % kind_bytes kind ≡ 0) × (offset + kind_bytes kind ≤ size_in cs shape) }
-{}
-
-/// Two places of a shape have two offsets.
-pub fn places_are_apart()
-    ensures { (cs : List Class) (shape : Shape) (p q : FieldAt) → IsIn p (places_of cs shape) → IsIn q (places_of cs shape) → p.offset ≡ q.offset → p ≡ q }
 {}
 
 /// The references of a shape stand by rising offset.

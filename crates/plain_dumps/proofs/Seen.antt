@@ -2,7 +2,7 @@
 use Rattle.std.proofs.Common.{◌≡◌, ℕ, List, Some, sym, ◌∙◌, ap, subst}
 use Rattle.heap_graph.specs.Graph.{Graph}
 use Rattle.heap_graph.specs.Table.{Fits}
-use Rattle.heap_world.specs.Formed.{IsFormed}
+use Rattle.heap_graph.specs.Formed.{IsFormed}
 use Rattle.heap_world.specs.World.{World}
 use Rattle.plain_machine.specs.Counts.{graph_of}
 use Rattle.plain_view.specs.Viewed.{first_table}

@@ -11,7 +11,7 @@ use Rattle.heap_world.specs.declared.command.Command.{Command}
 use Rattle.heap_world.specs.declared.command.Verb.{Verb}
 use Rattle.heap_world.specs.declared.names.PageName.TheVariants.{Image, Zygote, Large}
 use Rattle.heap_world.specs.Acts.{act, fork_part}
-use Rattle.heap_world.specs.Formed.{HasFewFields}
+use Rattle.heap_world.specs.Commands.{HasFewFields}
 use Rattle.heap_world.specs.Part.{Part, first_part}
 use Rattle.heap_world.specs.Run.{Line, world_after}
 use Rattle.heap_world.specs.Sound.{IsSound}

@@ -8,7 +8,7 @@ use Rattle.heap_world.specs.declared.command.Verb.{Verb}
 use Rattle.heap_world.specs.declared.command.Verb.TheVariants as verb
 use Rattle.heap_world.specs.Acts.{fork_part, gc_if}
 use Rattle.heap_world.specs.Effect.{Effect}
-use Rattle.heap_world.specs.Formed.{HasFewFields}
+use Rattle.heap_world.specs.Commands.{HasFewFields}
 use Rattle.heap_world.specs.World.{Process, World, child_process, fork_done, fork_if, fork_named, is_done, is_taken, process_after, process_named, step, step_found, step_live, stepped}
 use Rattle.heap_world.proofs.Processes.{or_false, put, taken}
 use Rattle.world_laws.specs.Wanting.{CameOnAlone, collected_world, collects, left_worlds, promoted_worlds, without_new, worlds_between}

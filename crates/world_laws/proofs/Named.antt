@@ -18,7 +18,7 @@ use Rattle.heap_graph.proofs.Totals.{total-filter, total-promoted, total-push}
 use Rattle.heap_world.specs.declared.names.PageName.{PageName}
 use Rattle.heap_world.specs.declared.names.PageName.TheVariants.{Image, Zygote, Large}
 use Rattle.heap_world.specs.Acts.{fork_pages, image_pages_behind, slot_pages_if}
-use Rattle.heap_world.specs.Formed.{FillZygote, IsBehindZygote, IsFormed, zygote_next}
+use Rattle.heap_graph.specs.Formed.{FillZygote, IsBehindZygote, IsFormed, zygote_next}
 use Rattle.heap_world.specs.Pages.{is_touched}
 use Rattle.heap_world.proofs.FormedKept.{loose-dropped}
 use Rattle.heap_world.proofs.Placed.{fill-is, top-is, zygote_top}

@@ -8,7 +8,7 @@ use Rattle.heap_graph.specs.declared.names.Place.TheVariants as place
 use Rattle.heap_graph.specs.Fork.{next_spot, promoted_from, promoted_place}
 use Rattle.heap_graph.specs.Graph.{Object, size_of_object}
 use Rattle.heap_graph.proofs.Totals.{total}
-use Rattle.heap_world.specs.Formed.{FillZygote, zygote_next}
+use Rattle.heap_graph.specs.Formed.{FillZygote, zygote_next}
 use Rattle.heap_world.proofs.Placed.{top-max, zygote_top}
 use Rattle.heap_world.proofs.PlacedFork.{young_size}
 

@@ -6,7 +6,7 @@ ghost use Rattle.heap_graph.specs.Collection.{collect};
 ghost use Rattle.heap_world.specs.declared.command.Command.{Command};
 ghost use Rattle.heap_world.specs.declared.reply.Refusal.{Refusal};
 ghost use Rattle.heap_world.specs.declared.reply.Reply.{Reply};
-ghost use Rattle.heap_world.specs.Formed.{HasFewFields};
+ghost use Rattle.heap_world.specs.Commands.{HasFewFields};
 ghost use Rattle.heap_world.specs.Part.{with_collected};
 ghost use Rattle.heap_world.specs.Run.{Line, world_after};
 ghost use Rattle.heap_world.specs.World.{World, first_world, process_named, put_process, step};
