@@ -117,7 +117,7 @@ promoted-le g formed =
     omega (arith, pages-le g.classes g.objects, costs-is g, formed.regions, formed.budget)
 
 -- pages are the same where the test says so
-page-same : (a b : PageName) → same_page a b ≡ true → a ≡ b
+pub page-same : (a b : PageName) → same_page a b ≡ true → a ≡ b
 page-same (Image j) (Image k) e = ap Image (eqb-true j k e)
 page-same (Image j) (Zygote k) e = cc
 page-same (Image j) (Large n k) e = cc

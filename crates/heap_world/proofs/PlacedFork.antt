@@ -67,7 +67,7 @@ module _ (cs : List Class) where
       by place.Promoted two rest = absurd (omega (arith, two))
 
   -- objects that are promoted behind all of the zygote window
-  zygote-promoted : (bytes at least : ℕ) (os : List Object) → AreInTurn least os → FillZygote cs bytes os → at ≡ next_multiple page_bytes (zygote_top cs bytes os) → FillZygote cs bytes (promoted_from cs at os)
+  pub zygote-promoted : (bytes at least : ℕ) (os : List Object) → AreInTurn least os → FillZygote cs bytes os → at ≡ next_multiple page_bytes (zygote_top cs bytes os) → FillZygote cs bytes (promoted_from cs at os)
   zygote-promoted bytes at least [] turns h e = tt
   zygote-promoted bytes at least (o ∷ os) turns h e = by o.place turns.1 h.0 h.1 e (λ b fill e. zygote-promoted b at (turn o.place) os turns.1 fill e)
     where
@@ -100,7 +100,7 @@ module _ (cs : List Class) where
       by place.Promoted rest = rest
 
   -- what is promoted takes no more than its bytes
-  top-promoted : (bytes at : ℕ) (os : List Object) → zygote_top cs bytes (promoted_from cs at os) ≤ max (zygote_top cs bytes os) (at + total (λ o. young_size cs o o.place) os)
+  pub top-promoted : (bytes at : ℕ) (os : List Object) → zygote_top cs bytes (promoted_from cs at os) ≤ max (zygote_top cs bytes os) (at + total (λ o. young_size cs o o.place) os)
   top-promoted bytes at [] = omega arith
   top-promoted bytes at (o ∷ os) = by o.place (λ b a. top-promoted b a os)
     where

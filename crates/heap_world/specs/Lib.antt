@@ -1,6 +1,7 @@
 pub mod Acts
 pub mod Cards
 pub mod Commands
+pub mod Counts
 pub mod Effect
 pub mod Examples
 pub mod Isolation

@@ -1,7 +1,5 @@
 -- What holds of all processes of a machine, and what a machine stands for.
-use Rattle.std.specs.Prelude.{◌≡◌, ℕ, false, List, [], ◌∷◌, Option, None, Some, codes}
-use Rattle.std.specs.List.{list_any}
-use Rattle.class_layout.specs.Names.{same_name}
+use Rattle.std.specs.Prelude.{◌≡◌, ℕ, List, [], ◌∷◌, Option, None, Some, codes}
 use Rattle.class_layout.specs.Placing.{IsIn}
 use Rattle.heap_world.specs.declared.command.Verb.{Verb}
 use Rattle.heap_world.specs.declared.command.Verb.TheVariants as verb
@@ -9,15 +7,11 @@ use Rattle.heap_world.specs.declared.reply.Reply.{Reply}
 use Rattle.heap_world.specs.Part.{first_part}
 use Rattle.heap_world.specs.Sound.{IsSound}
 use Rattle.heap_world.specs.World.{Process, Stepped, World}
+use Rattle.world_laws.specs.Worlds.{AreNamedApart}
 
 -- the process that a new machine is prepared with
 abbrev pub first_process : ℕ → ℕ → Process
 first_process regions number = record { name = codes "zygote"; part = first_part regions number; labels = [] }
-
--- no two processes have one name
-abbrev pub AreNamedApart : List Process → Type 0
-AreNamedApart [] = Unit {0}
-AreNamedApart (q ∷ qs) = (list_any (λ r. same_name r.name q.name) qs ≡ false) × AreNamedApart qs
 
 -- each process is sound
 abbrev pub AreSound : List Process → Type 0

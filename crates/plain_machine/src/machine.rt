@@ -11,7 +11,7 @@ ghost use Rattle.heap_world.specs.Isolation.{is_frames};
 ghost use Rattle.heap_world.specs.World as worlds;
 ghost use Rattle.heap_world.specs.declared.reply.Reply.{Reply};
 ghost use Rattle.heap_world.specs.Acts.{act};
-ghost use Rattle.plain_machine.specs.Counts as counts;
+ghost use Rattle.heap_world.specs.Counts as counts;
 ghost use Rattle.plain_machine.specs.Worlds.{Does, StandsAmong, StandsFor, forked_child};
 ghost use Rattle.world_laws.specs.Labels.{AreEarlier};
 ghost use Rattle.world_laws.specs.Wanting.{left_worlds};

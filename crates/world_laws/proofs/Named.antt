@@ -23,8 +23,7 @@ use Rattle.heap_world.specs.Pages.{is_touched}
 use Rattle.heap_world.proofs.FormedKept.{loose-dropped}
 use Rattle.heap_world.proofs.Placed.{fill-is, top-is, zygote_top}
 use Rattle.heap_world.proofs.PlacedFilter.{no_image, top-filter, zygote-filter}
-use Rattle.heap_world.proofs.PlacedFork.{young-sum}
-use Rattle.world_laws.proofs.Tops.{top-promoted}
+use Rattle.heap_world.proofs.PlacedFork.{top-promoted, young-sum}
 use Rattle.heap_world.proofs.PlacedPush.{top-push, zygote-push}
 use Rattle.heap_world.proofs.PlacedSame.{AreSame, cleared-same, image_size-same, top-same, total-same, zygote-same}
 use Rattle.heap_world.proofs.Standing.{in-count}
