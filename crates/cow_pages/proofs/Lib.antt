@@ -22,3 +22,7 @@ pub mod RoomLemmas
 pub mod StoreLemmas
 pub mod EntryLemmas
 pub mod MapLemmas
+pub mod SlotLemmas
+pub mod MarkLemmas
+pub mod FreeLemmas
+pub mod CopyLemmas
