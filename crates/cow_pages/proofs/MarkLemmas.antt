@@ -6,8 +6,8 @@ use Rattle.sharers.specs.Shares.{Shares, AreTallied, count_of}
 use Rattle.cow_pages.specs.declared.frame.Frame.{Frame}
 use Rattle.cow_pages.specs.declared.leaf.Entry.{Entry}
 use Rattle.cow_pages.specs.declared.store.Store.{Store}
-use Rattle.cow_pages.specs.Address.{page_of, offset_of}
-use Rattle.cow_pages.specs.Change.{WritesPage, patched}
+use Rattle.cow_pages.specs.Address.{page_of, offset_of, leaf_index}
+use Rattle.cow_pages.specs.Change.{OwnsLeaf, TakesOnCopy, WritesPage, patched}
 use Rattle.cow_pages.specs.Frame.{frame_bytes}
 use Rattle.cow_pages.specs.Grid.{one_held}
 use Rattle.cow_pages.specs.Memory.{HasOneSharer}
@@ -15,14 +15,14 @@ use Rattle.cow_pages.specs.Store.{Row, frame_key, leaf_grid, table_grid, bytes_o
 use Rattle.cow_pages.specs.Steps.{Lone, SetsOwn, SetsBytes, Recounts, OwnsEntry, Marks, PutsBytes}
 use Rattle.cow_pages.proofs.CodeLemmas.{field-here, field-other}
 use Rattle.cow_pages.proofs.PatchLemmas.{length-patched, small-patched}
-use Rattle.cow_pages.proofs.SharedLemmas.{lone}
+use Rattle.cow_pages.proofs.SharedLemmas.{lone, stands}
 use Rattle.cow_pages.proofs.ShownLemmas.{page_at-shown, frame-shown, one_sharer}
 use Rattle.cow_pages.proofs.OpLemmas.{set_entries}
 use Rattle.cow_pages.proofs.SeenLemmas.{page-kept, live-shown, page_as}
-use Rattle.cow_pages.proofs.StoreLemmas.{HasRoom-tables}
+use Rattle.cow_pages.proofs.StoreLemmas.{HasRoom-tables, owns_same}
 use Rattle.cow_pages.proofs.EntryLemmas.{HasRoom-bytes, set_store, ready_of}
 use Rattle.cow_pages.proofs.MapLemmas.{recounts-from}
-use Rattle.cow_pages.proofs.SlotLemmas.{slot_is, sets_own, lone_shown, SameRooms, same_rooms}
+use Rattle.cow_pages.proofs.SlotLemmas.{slot_is, sets_own, one_counts, lone_shown, SameRooms, same_rooms, takes_later, takes_none, owns_later}
 
 abbrev pub flagged : Entry → Entry
 flagged e = record e { written = true }
@@ -150,9 +150,53 @@ written_steps s m1 m2 new t at e own bs store one also is owns marks puts =
     }
 
 -- neither takes a frame or a leaf
-pub written_rooms : (m1 m2 new : Store) (t p f o : ℕ) (own : Entry) (bs : List ℕ) → IsStore m1 → IsStore new → length new.frames.items ≡ length m2.frames.items → Marks m1 m2 t p own → PutsBytes m2 new f o bs → SameRooms (shown m1) (shown new)
-written_rooms m1 m2 new t p f o own bs one also len marks puts =
-    same_rooms m1 new one also (len ∙ ap (λ (it : Store). length it.frames.items) marks.rest)
+pub written_rooms : (m1 m2 new : Store) (t p f o : ℕ) (own : Entry) (bs : List ℕ) → IsStore m1 → IsStore new → Marks m1 m2 t p own → PutsBytes m2 new f o bs → SameRooms (shown m1) (shown new)
+written_rooms m1 m2 new t p f o own bs one also marks puts =
+    same_rooms m1 new one also
+    (omega (
+      arith,
+      one.room.frames,
+      also.room.frames,
+      ap (λ (it : Store). length it.frame_counts.counts) puts.rest,
+      ap (λ (it : Store). length it.frame_counts.counts) marks.rest,
+    ))
     (ap (λ (it : Store). it.frame_counts.spare) puts.rest ∙ ap (λ (it : Store). it.frame_counts.spare) marks.rest)
     (ap (λ (it : Store). it.leaf_counts.spare) puts.rest ∙ ap (λ (it : Store). it.leaf_counts.spare) marks.rest)
     (ap (λ (it : Store). table_grid it) puts.rest ∙ marks.grid)
+
+-- a page whose flag is set has a frame that no other entry has
+pub flag_alone : (s : Store) → IsKept s → (t p : ℕ) (e : Entry) → entry_at s t p ≡ Some e → e.written ≡ true → HasOneSharer (shown s) t p
+flag_alone s kept t p e is set =
+    one_sharer s kept t p e is (λ u q d at same. (sym (kept.pages.alone t p u q e d is at (sym same) set), sym (kept.pages.same_page t p u q e d is at (sym same))))
+
+-- bytes were put into a page whose flag was set
+pub record WrittenBefore (s new : Store) (t at : ℕ) (bs : List ℕ) : Type 0 where
+  pub page : WritesPage (shown s) (shown new) t at bs
+  pub takes : TakesOnCopy (shown s) (shown new) t (page_of at)
+  pub leaf : OwnsLeaf (shown s) (shown new) t (leaf_index (page_of at))
+
+pub written_before : (s new : Store) (t at : ℕ) (e : Entry) (bs : List ℕ) → IsStore s → IsStore new → entry_at s t (page_of at) ≡ Some e → e.written ≡ true → PutsBytes s new e.frame (offset_of at) bs → WrittenBefore s new t at bs
+written_before s new t at e bs store also is set puts =
+    let p = page_of at in
+    let one = flag_alone s store.kept t p e is set in
+    let st = stands s t p e is in
+    let counts = one_counts s store.kept t p st.leaf e st.place is one in
+    let owns = owns_kept s t p st.leaf e store.kept st.place is counts.0 counts.1 in
+    let marks = marked_before s t p e is set in
+    let rooms = written_rooms s s new t p e.frame (offset_of at) e bs store also marks puts in
+    record {
+      page = written_steps s s s new t at e e bs store store also is owns marks puts;
+      takes = takes_later (shown s) (shown s) (shown new) t p rooms (takes_none (shown s) t p one);
+      leaf = owns_later (shown s) (shown s) (shown new) t (leaf_index p) rooms.leaves (owns_same s store t (leaf_index p) st.leaf st.place counts.0);
+    }
+
+-- a page was made the table's own, its flag was set, and bytes were put into its frame
+pub written_first : (s m1 m2 new : Store) (t at : ℕ) (e own : Entry) (bs : List ℕ) → IsStore s → IsStore m1 → IsStore new → entry_at s t (page_of at) ≡ Some e → OwnsEntry s m1 t (page_of at) e own → Marks m1 m2 t (page_of at) own
+    → PutsBytes m2 new own.frame (offset_of at) bs → TakesOnCopy (shown s) (shown m1) t (page_of at) → OwnsLeaf (shown s) (shown m1) t (leaf_index (page_of at)) → WrittenBefore s new t at bs
+written_first s m1 m2 new t at e own bs store one also is owns marks puts takes leaf =
+    let rooms = written_rooms m1 m2 new t (page_of at) own.frame (offset_of at) own bs one also marks puts in
+    record {
+      page = written_steps s m1 m2 new t at e own bs store one also is owns marks puts;
+      takes = takes_later (shown s) (shown m1) (shown new) t (page_of at) rooms takes;
+      leaf = owns_later (shown s) (shown m1) (shown new) t (leaf_index (page_of at)) rooms.leaves leaf;
+    }

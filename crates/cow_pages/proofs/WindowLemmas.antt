@@ -1,5 +1,5 @@
 -- Windows, and a count for each of them.
-use Rattle.std.proofs.Common.{◌≡◌, ℕ, ◌+◌, ◌-◌, ◌<◌, ◌≤◌, Bool, true, false, cond, ltb, leb, ◌&&◌, ◌||◌, IsTrue, refl, sym, ap, ◌∙◌, true≢false, ◌⊎◌, inl, inr, arith}
+use Rattle.std.proofs.Common.{◌≡◌, ℕ, ◌+◌, ◌*◌, ◌-◌, ◌<◌, ◌≤◌, Bool, true, false, cond, ltb, leb, ◌&&◌, ◌||◌, IsTrue, refl, sym, ap, ◌∙◌, true≢false, ◌⊎◌, inl, inr, arith}
 use Rattle.std.proofs.lemmas.Bool.{ltb-true, ltb-false, leb-true, and_left, and_right, and_from, and_parts, cond-true, cond-false, le-leb, lt-ltb, le-ltb}
 use Rattle.cow_pages.specs.declared.address.Window.{Window}
 use Rattle.cow_pages.specs.declared.address.Window.TheVariants.{Image, Zygote, Regions, Large}
@@ -185,3 +185,16 @@ recounted c mid new v w gone came here there fits less more here_is there_is = b
           cond-false {A = ℕ} (same_window v w) gone 0 is,
           cond-false {A = ℕ} (same_window v w) came 0 is,
         )
+
+-- a page of a window is below the end of all addresses
+pub window_below : (p : ℕ) → IsTrue (is_in_window p) → p < 1024 * 1024
+window_below p is = elim (or_cases _ (is_in Large p) is) [
+  | inl rest ↦ elim (or_cases _ (is_in Regions p) rest) [
+    | inl two ↦ elim (or_cases (is_in Image p) (is_in Zygote p) two) [
+      | inl one ↦ let at = in_bounds 0x20000 0x24000 p one in omega (arith, at.1)
+      | inr one ↦ let at = in_bounds 0x30000 0x40000 p one in omega (arith, at.1)
+    ]
+    | inr one ↦ let at = in_bounds 0x40000 0x50000 p one in omega (arith, at.1)
+  ]
+  | inr one ↦ let at = in_bounds 0x80000 0xa0000 p one in omega (arith, at.1)
+]
