@@ -22,3 +22,5 @@ pub mod RoomLemmas
 pub mod StoreLemmas
 pub mod EntryLemmas
 pub mod MapLemmas
+pub mod JoinLemmas
+pub mod TableLemmas
