@@ -24,3 +24,5 @@ pub mod EntryLemmas
 pub mod MapLemmas
 pub mod JoinLemmas
 pub mod TableLemmas
+pub mod SettleLemmas
+pub mod EndLemmas
