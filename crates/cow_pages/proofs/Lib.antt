@@ -26,3 +26,7 @@ pub mod SlotLemmas
 pub mod MarkLemmas
 pub mod FreeLemmas
 pub mod CopyLemmas
+pub mod JoinLemmas
+pub mod TableLemmas
+pub mod SettleLemmas
+pub mod EndLemmas

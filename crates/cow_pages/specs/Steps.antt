@@ -316,9 +316,11 @@ pub record Ending (s new : Store) (t i : ℕ) : Type 0 where
   pub filled : IsFilled new
   pub counted : (u : ℕ) → u ≢ t → IsCounted new u
   pub bytes : new.frames ≡ s.frames
-  pub tables : (u : ℕ) → u ≢ t → slice_index_or new.tables.items u None ≡ slice_index_or s.tables.items u None
-  pub live : IsTrue (is_some (slice_index_or new.tables.items t None))
+  pub live : (u : ℕ) → is_some (slice_index_or new.tables.items u None) ≡ is_some (slice_index_or s.tables.items u None)
+  pub len : length new.tables.items ≡ length s.tables.items
   pub leaves : (j : ℕ) → i ≤ j → place_at new t j ≡ place_at s t j
+  pub places : (u j : ℕ) → u ≢ t → place_at new u j ≡ place_at s u j
+  pub leaf_len : length new.leaf_counts.counts ≡ length s.leaf_counts.counts
   pub numbers : new.table_counts ≡ s.table_counts
   pub reads : new.reads ≡ s.reads
   pub frames_spare : s.frame_counts.spare ≤ new.frame_counts.spare
