@@ -209,3 +209,10 @@ entry_none s m kept also same t p none = by (entry_at m t p) refl (sym (page_at-
     by : (o : Option Entry) → entry_at m t p ≡ o → option_map (page_of_entry m) o ≡ None → entry_at m t p ≡ None
     by None at shows = at
     by (Some d) at shows = absurd (none-some (page_of_entry m d) (sym shows))
+
+-- where the leaf or the frame has more than one sharer, another table has the page's frame
+pub shared_more : (s : Store) → IsKept s → (t p l : ℕ) (e : Entry) → place_at s t (p / 1024) ≡ Some l → entry_at s t p ≡ Some e → (leaf_sharers s l ≢ 1) ⊎ (frame_sharers s e.frame ≢ 1) → IsShared (shown s) t p
+shared_more s kept t p l e place is how = elim (one_or_more s kept t p l e place (slot_is s t p l (Some e) place is)) [
+  | inl both ↦ absurd (elim how [ inl leaf ↦ leaf both.0 | inr frame ↦ frame both.1 ])
+  | inr some ↦ some.1
+]
