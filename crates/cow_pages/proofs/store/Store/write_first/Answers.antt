@@ -11,7 +11,7 @@ use Rattle.cow_pages.proofs.MarkLemmas.{written_first}
 use Rattle.cow_pages.proofs.store.Store.write_first.Goals as goal
 
 pub mapped_entry-entry-requires : goal.mapped_entry-entry-requires
-mapped_entry-entry-requires c = record { store = c.requires.store; mapped = subst (λ p. IsTrue (is_mapped (shown c.args.self.now) c.args.t p)) (sym c.page.ensures) c.requires.mapped }
+mapped_entry-entry-requires c = record { store = c.requires.store; mapped = subst (λ p. IsTrue (is_mapped (shown c.args.self.now) c.args.t p)) (sym c.page-page.ensures) c.requires.mapped }
 
 pub own-requires : goal.own-requires
 own-requires c = record { store = c.requires.store; there = c.mapped_entry-entry.ensures }
@@ -27,7 +27,7 @@ put-requires c =
       within =
           omega (
             arith,
-            entry_within m1 c.own.ensures.store.kept c.own.ensures.store.room c.args.t c.page.result.0 c.in_ok-own.own c.in_ok-own.ensures.owns.there,
+            entry_within m1 c.own.ensures.store.kept c.own.ensures.store.room c.args.t c.page-page.result.0 c.in_ok-own.own c.in_ok-own.ensures.owns.there,
             ap (λ (it : Store). length it.frames.items) c.mark.ensures.marks.rest,
           );
       room = omega (arith, c.offset.ensures, c.requires.room);
@@ -41,7 +41,7 @@ returns c =
     let new = c.put.new.self in
     let e = c.mapped_entry-entry.result in
     let own = c.in_ok-own.own in
-    let page = c.page.ensures in
+    let page = c.page-page.ensures in
     let all = written_first s m1 m2 new c.args.t c.args.at.0 e own c.args.bytes.now c.requires.store c.own.ensures.store c.put.ensures.store
     (subst (λ p. entry_at s c.args.t p ≡ Some e) page c.mapped_entry-entry.ensures)
     (subst (λ p. OwnsEntry s m1 c.args.t p e own) page c.in_ok-own.ensures.owns)
@@ -61,10 +61,10 @@ returns c =
 
 pub returns-in_err-own-clause-only : goal.returns-in_err-own-clause-only
 returns-in_err-own-clause-only c =
-    let only = subst (λ p. IsShared (shown c.args.self.now) c.args.t p × (spare_of c.args.self.now ≡ 0)) c.page.ensures c.in_err-own.ensures.only in
+    let only = subst (λ p. IsShared (shown c.args.self.now) c.args.t p × (spare_of c.args.self.now ≡ 0)) c.page-page.ensures c.in_err-own.ensures.only in
     on_err _ only
 
 pub returns-in_err-own-clause-succeeds : goal.returns-in_err-own-clause-succeeds
 returns-in_err-own-clause-succeeds c = λ either.
-    let back = subst (λ p. HasOneSharer (shown c.args.self.now) c.args.t p ⊎ (spare_of c.args.self.now ≢ 0)) (sym c.page.ensures) either in
+    let back = subst (λ p. HasOneSharer (shown c.args.self.now) c.args.t p ⊎ (spare_of c.args.self.now ≢ 0)) (sym c.page-page.ensures) either in
     absurd (true≢false (sym (c.in_err-own.ensures.succeeds back)))
