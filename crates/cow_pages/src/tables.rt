@@ -25,6 +25,7 @@ impl Store {
         ensures pages { IfOk result (λ u. (p : ℕ) → page_at (shown self.new) u p ≡ None) }
         ensures rest { IfOk result (λ u. ChangesTable (shown self.old) (shown self.new) u) }
         ensures leaves { IfOk result (λ u. OtherLeaves (shown self.old) (shown self.new) u × ((i : ℕ) → leaf_in (shown self.new) u i ≡ None)) }
+        ensures used { used_leaves (shown self.new) ≡ used_leaves (shown self.old) }
         ensures room { KeepsRoom (shown self.old) (shown self.new) }
         ensures err { OnErr result (shown self.new ≡ shown self.old) }
     {
