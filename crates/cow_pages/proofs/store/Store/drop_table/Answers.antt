@@ -1,4 +1,4 @@
-use Rattle.std.proofs.Common.{◌≡◌, ◌-◌, ◌<◌, cond, ℕ, List, [], None, Some, Option, is_some, length, get_or, set, refl, subst, sym, ap, ◌∙◌, arith}
+use Rattle.std.proofs.Common.{◌≡◌, ◌+◌, ◌-◌, ◌<◌, cond, ℕ, List, [], None, Some, Option, is_some, length, get_or, set, refl, subst, sym, ap, ◌∙◌, arith}
 use Rattle.std.specs.Vec.{with_item}
 use Rattle.sharers.specs.Shares.{count_of}
 use Rattle.cow_pages.specs.declared.store.Store.{Store}
