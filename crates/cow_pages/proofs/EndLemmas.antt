@@ -17,7 +17,7 @@ use Rattle.cow_pages.specs.Counts.{count_in}
 use Rattle.cow_pages.specs.Tables.{mapped_from, written_from}
 use Rattle.cow_pages.specs.Grid.{cell, held, one_held, all_held}
 use Rattle.cow_pages.specs.Store.{Row, row_of, frame_key, leaf_key, leaf_grid, table_grid, bytes_of, frame_sharers, leaf_sharers, pages_kept, place_at, flat, mapped_counts, written_counts, shown, CountsSlots, IsFilled, IsCounted, IsKept, HasRoom, IsStore}
-use Rattle.cow_pages.specs.Steps.{KeepsCounts, KeepsLeaves, SetsPlace, ClearsLeaf, LeavesPlace, Dropping, Ending, Ends}
+use Rattle.cow_pages.specs.Steps.{KeepsCounts, KeepsLeaves, SetsPlace, ClearsLeaf, LeavesPlace, Dropping, EmptiesLeaf, Ending, Ends}
 use Rattle.cow_pages.proofs.GridLemmas.{all-set, cell-row, cell-column, held-empty, one-yes, one-no}
 use Rattle.cow_pages.proofs.CountLemmas.{count-here, count-other}
 use Rattle.cow_pages.proofs.CodeLemmas.{field-here, field-other, live_within, slots-set}
@@ -34,6 +34,12 @@ use Rattle.cow_pages.proofs.JoinLemmas.{present-none}
 -- the frames of a leaf have as many sharers as it has entries with them
 pub row_held : (s : Store) → IsKept s → (l : ℕ) → l < length (leaf_grid s) → (f : ℕ) → held frame_key (get_or (leaf_grid s) l []) f ≤ frame_sharers s f
 row_held s kept l within f = omega (arith, kept.counts.frames f, all-set frame_key (leaf_grid s) l [] f within)
+
+pub row_there : (s : Store) (l : ℕ) → l < length s.leaves.items → l < length (leaf_grid s)
+row_there s l within = omega (arith, within, length-map s.leaves.items (λ (it : Leaf). it.entries))
+
+pub row_whole : (s : Store) → IsKept s → (l : ℕ) → l < length s.leaves.items → length (get_or (leaf_grid s) l []) ≡ 1024
+row_whole s kept l within = kept.whole.leaves l (row_there s l within)
 
 pub ending_none : (s : Store) (t : ℕ) → IsStore s → Ending s s t 0
 ending_none s t store = record {
@@ -226,22 +232,15 @@ ending_shared first s new t i l shares place more c e =
     ending_more first s new t i l e (dropping_shared first s new t i l e.drops leaves) (left_of s s new t i l shares some b leaves.sets c)
 
 -- a leaf of one's own, whose frames are taken from its entries and which is emptied
-pub record Clears (s bare : Store) (l : ℕ) : Type 0 where
-  pub sharers : (f : ℕ) → frame_sharers bare f + held frame_key (get_or (leaf_grid s) l []) f ≡ frame_sharers s f
-  pub spare : s.frame_counts.spare ≤ bare.frame_counts.spare
-  pub len : length bare.frame_counts.counts ≡ length s.frame_counts.counts
-  pub tallied : AreTallied bare.frame_counts
-  pub leaves : bare.leaves.items ≡ set s.leaves.items l no_leaf
-  pub rest : bare ≡ record s { leaves = bare.leaves; frame_counts = bare.frame_counts }
-
-pub clears_leaf : (s bare : Store) (t i l : ℕ) → IsKept s → place_at s t i ≡ Some l → leaf_sharers s l ≡ 1 → Clears s bare l → ClearsLeaf s bare t i l (replicate 1024 None)
-clears_leaf s bare t i l kept place own c = record {
+pub clears_leaf : (s bare : Store) (t i l : ℕ) → IsKept s → place_at s t i ≡ Some l → leaf_sharers s l ≡ 1 → EmptiesLeaf s bare l → bare ≡ record s { leaves = bare.leaves; frame_counts = bare.frame_counts }
+    → ClearsLeaf s bare t i l (replicate 1024 None)
+clears_leaf s bare t i l kept place own c rest = record {
   place = place;
   own = own;
   tables = record {
-    tables = ap (λ (it : Store). table_grid it) c.rest;
-    sharers = λ k. ap (λ (it : Store). leaf_sharers it k) c.rest;
-    len = ap (λ (it : Store). length it.leaf_counts.counts) c.rest;
+    tables = ap (λ (it : Store). table_grid it) rest;
+    sharers = λ k. ap (λ (it : Store). leaf_sharers it k) rest;
+    len = ap (λ (it : Store). length it.leaf_counts.counts) rest;
   };
   empty = λ a. get_or-none 1024 a;
   len = length-replicate {A = Option Entry} 1024 None;
@@ -252,14 +251,15 @@ clears_leaf s bare t i l kept place own c = record {
   };
 }
 
-pub ending_own : (first s bare new : Store) (t i l : ℕ) (shares : Shares) → place_at s t i ≡ Some l → leaf_sharers s l ≡ 1 → Clears s bare l → Takes bare new t i l shares → Ending first s t i → Ending first new t (i + 1)
-ending_own first s bare new t i l shares place own c takes e =
+pub ending_own : (first s bare new : Store) (t i l : ℕ) (shares : Shares) → place_at s t i ≡ Some l → leaf_sharers s l ≡ 1 → EmptiesLeaf s bare l → bare ≡ record s { leaves = bare.leaves; frame_counts = bare.frame_counts } → Takes bare new t i l shares
+    → Ending first s t i → Ending first new t (i + 1)
+ending_own first s bare new t i l shares place own c rest takes e =
     let kept = e.drops.kept in
     let inside : l < length s.leaves.items = leaf_there s kept t i l place in
-    let clears = clears_leaf s bare t i l kept place own c in
-    let now : place_at bare t i ≡ Some l = ap (λ (it : Store). place_at it t i) c.rest ∙ place in
-    let still : leaf_sharers bare l ≡ 1 = ap (λ (it : Store). leaf_sharers it l) c.rest ∙ own in
-    let within : l < length bare.leaf_counts.counts = omega (arith, leaf_within s l (leaf_held s kept.counts t i l place), ap (λ (it : Store). length it.leaf_counts.counts) c.rest) in
+    let clears = clears_leaf s bare t i l kept place own c rest in
+    let now : place_at bare t i ≡ Some l = ap (λ (it : Store). place_at it t i) rest ∙ place in
+    let still : leaf_sharers bare l ≡ 1 = ap (λ (it : Store). leaf_sharers it l) rest ∙ own in
+    let within : l < length bare.leaf_counts.counts = omega (arith, leaf_within s l (leaf_held s kept.counts t i l place), ap (λ (it : Store). length it.leaf_counts.counts) rest) in
     let empty : (a : ℕ) → cell (leaf_grid bare) l a ≡ None = λ a.
         ap (λ (g : List (List (Option Entry))). cell g l a) clears.clears.leaves
         ∙ ap (λ (row : List (Option Entry)). get_or row a None) (get_or-set_same (leaf_grid s) l (replicate 1024 None) [] clears.clears.there)
@@ -276,9 +276,17 @@ ending_own first s bare new t i l shares place own c takes e =
       pages = λ u j k off is.
           ap (λ (ls : List Leaf). get_or (map (λ (it : Leaf). it.mapped) ls) k 0) c.leaves
           ∙ field-other (λ (it : Leaf). it.mapped) s.leaves.items l k no_leaf 0 (only_place s kept.counts t i l u j k place own is off);
-      rest = c.rest;
+      rest = rest;
     } in
     ending_more first s new t i l e (dropping_own first s bare new t i l (replicate 1024 None) e.drops clears leaves) (left_of s bare new t i l shares (omega (arith, still)) b leaves.sets takes)
+
+-- a leaf of either kind
+pub ending_leaf : (first s bare new : Store) (t i l : ℕ) (shares : Shares) → place_at s t i ≡ Some l → (leaf_sharers s l ≡ 1 → EmptiesLeaf s bare l) → (leaf_sharers s l ≢ 1 → bare ≡ s)
+    → bare ≡ record s { leaves = bare.leaves; frame_counts = bare.frame_counts } → Takes bare new t i l shares → Ending first s t i → Ending first new t (i + 1)
+ending_leaf first s bare new t i l shares place own shared rest takes e = elim (cases_eq (leaf_sharers s l) 1) [
+  | inl one ↦ ending_own first s bare new t i l shares place one (own one) rest takes e
+  | inr more ↦ ending_shared first s new t i l shares place more (subst (λ (it : Store). Takes it new t i l shares) (shared more) takes) e
+]
 
 -- AT ITS END
 

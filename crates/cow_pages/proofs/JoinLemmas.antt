@@ -290,3 +290,69 @@ took s new store same =
   where
     plus : (k : ℕ) → k + 0 ≡ k
     plus k = omega arith
+
+-- FRAMES, THEN LEAVES
+
+-- the steps of a reserve, once memory is taken
+pub record AddSteps (m mid new : Store) (n k : ℕ) : Type 0 where
+  pub frames : mid.frames.items ≡ m.frames.items ++ replicate n zero_frame
+  pub frame_counts : mid.frame_counts.counts ≡ m.frame_counts.counts ++ replicate n 0
+  pub frame_spare : mid.frame_counts.spare ≡ m.frame_counts.spare + n
+  pub frames_tallied : AreTallied mid.frame_counts
+  pub frames_rest : mid ≡ record m { frames = mid.frames; frame_counts = mid.frame_counts }
+  pub leaves : new.leaves.items ≡ mid.leaves.items ++ replicate k no_leaf
+  pub leaf_counts : new.leaf_counts.counts ≡ mid.leaf_counts.counts ++ replicate k 0
+  pub leaf_spare : new.leaf_counts.spare ≡ mid.leaf_counts.spare + k
+  pub leaves_tallied : AreTallied new.leaf_counts
+  pub leaves_rest : new ≡ record mid { leaves = new.leaves; leaf_counts = new.leaf_counts }
+
+pub steps_join : (m mid new : Store) (n k : ℕ) → AddSteps m mid new n k → Joins m new n k
+steps_join m mid new n k c = record {
+  frames = ap (λ (it : Store). it.frames.items) c.leaves_rest ∙ c.frames;
+  leaves = c.leaves ∙ ap (λ (it : Store). it.leaves.items ++ replicate k no_leaf) c.frames_rest;
+  frame_counts = ap (λ (it : Store). it.frame_counts.counts) c.leaves_rest ∙ c.frame_counts;
+  leaf_counts = c.leaf_counts ∙ ap (λ (it : Store). it.leaf_counts.counts ++ replicate k 0) c.frames_rest;
+  frames_tallied = subst (λ (it : Store). AreTallied it.frame_counts) (sym c.leaves_rest) c.frames_tallied;
+  leaves_tallied = c.leaves_tallied;
+  tables = ap (λ (it : Store). it.tables) c.leaves_rest ∙ ap (λ (it : Store). it.tables) c.frames_rest;
+  numbers = ap (λ (it : Store). it.table_counts) c.leaves_rest ∙ ap (λ (it : Store). it.table_counts) c.frames_rest;
+  reads = ap (λ (it : Store). it.reads) c.leaves_rest ∙ ap (λ (it : Store). it.reads) c.frames_rest;
+}
+
+pub record Reserves (s new : Store) (n k : ℕ) : Type 0 where
+  pub store : IsStore new
+  pub made : AddsRoom s new n k
+
+pub reserved : (s m mid new : Store) (n k : ℕ) → IsStore m → shown m ≡ shown s → (m.frame_counts.spare ≡ s.frame_counts.spare) × (m.leaf_counts.spare ≡ s.leaf_counts.spare) → AddSteps m mid new n k → Reserves s new n k
+reserved s m mid new n k store same spare c =
+    let j = steps_join m mid new n k c in
+    let adds = joined_shown m new n k store j (ap (λ (it : Store). it.frame_counts.spare) c.leaves_rest ∙ c.frame_spare) (c.leaf_spare ∙ ap (λ (it : Store). it.leaf_counts.spare + k) c.frames_rest) in
+    record {
+      store = joined_store m new n k store j;
+      made = record {
+        seen =
+            adds.seen
+            ∙ ap (λ (it : Memory). more it (min (m.frame_counts.spare + n) (m.leaf_counts.spare + k))) same
+            ∙ ap (λ (a : ℕ). more (shown s) (min (a + n) (m.leaf_counts.spare + k))) spare.0
+            ∙ ap (λ (b : ℕ). more (shown s) (min (s.frame_counts.spare + n) (b + k))) spare.1;
+        frames_spare = adds.frames_spare ∙ ap (λ (a : ℕ). a + n) spare.0;
+        leaves_spare = adds.leaves_spare ∙ ap (λ (b : ℕ). b + k) spare.1;
+      };
+    }
+  where
+    more : Memory → ℕ → Memory
+    more it spare = record it { frames = it.frames + n; spare = spare }
+
+-- nothing was wanting
+pub reserved_none : (s : Store) (n k : ℕ) → n ≡ 0 → k ≡ 0 → AddsRoom s s n k
+reserved_none s n k no_frame no_leaf = record {
+  seen =
+      memory-same (shown s) (record (shown s) { frames = length s.frames.items + n; spare = min (s.frame_counts.spare + n) (s.leaf_counts.spare + k) }) refl refl
+      (omega (arith, no_frame))
+      (ap (λ (a : ℕ). min a s.leaf_counts.spare) (same s.frame_counts.spare n no_frame) ∙ ap (λ (b : ℕ). min (s.frame_counts.spare + n) b) (same s.leaf_counts.spare k no_leaf)) refl;
+  frames_spare = same s.frame_counts.spare n no_frame;
+  leaves_spare = same s.leaf_counts.spare k no_leaf;
+}
+  where
+    same : (a n : ℕ) → n ≡ 0 → a ≡ a + n
+    same a n none = omega (arith, none)

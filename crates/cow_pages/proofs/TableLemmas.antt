@@ -1,5 +1,5 @@
 -- A store to which a table joined.
-use Rattle.std.proofs.Common.{◌≡◌, ◌≢◌, ℕ, zero, suc, ◌+◌, ◌<◌, ◌/◌, ◌%◌, ◌++◌, cond, false, List, [], ◌∷◌, length, map, get_or, set, Some, None, Option, is_some, IsTrue, refl, sym, ap, subst, ◌∙◌, inl, inr, arith}
+use Rattle.std.proofs.Common.{◌≡◌, ◌≢◌, ℕ, zero, suc, ◌+◌, ◌*◌, ◌^◌, ◌<◌, ◌≤◌, ◌/◌, ◌%◌, ◌++◌, cond, false, List, [], ◌∷◌, length, map, get_or, set, Some, None, Option, is_some, IsTrue, refl, sym, ap, subst, ◌∙◌, inl, inr, arith}
 use Rattle.std.specs.Prelude.{All, replicate, min, option_map}
 use Rattle.std.proofs.lemmas.List.{length-append, length-replicate, length-map, length-set, map-set, get_or-map, get_or-set_same, get_or-set_other}
 use Rattle.std.proofs.lemmas.Bool.{cases_eq}
@@ -10,7 +10,7 @@ use Rattle.cow_pages.specs.declared.leaf.Entry.{Entry}
 use Rattle.cow_pages.specs.declared.table.Counts.{Counts}
 use Rattle.cow_pages.specs.declared.table.Table.{Table}
 use Rattle.cow_pages.specs.declared.store.Store.{Store}
-use Rattle.cow_pages.specs.Memory.{Memory, page_at, is_live, used_leaves, leaf_in}
+use Rattle.cow_pages.specs.Memory.{page_at, is_live, used_leaves, IsSettled}
 use Rattle.cow_pages.specs.Change.{ChangesTable, KeepsRoom, OtherLeaves}
 use Rattle.cow_pages.specs.Counts.{count_in, no_counts}
 use Rattle.cow_pages.specs.Tables.{mapped_from, written_from, mapped_one, written_one}
@@ -18,15 +18,17 @@ use Rattle.cow_pages.specs.Grid.{cell, held, all_held}
 use Rattle.cow_pages.specs.Store.{Row, row_of, leaf_key, leaf_grid, table_grid, table_entries, bytes_of, frame_sharers, leaf_sharers, pages_kept, place_at, entry_in, entry_at, flat, page_of_entry, mapped_counts, written_counts, mapped_kept, written_kept, shown, spare_of, CountsSlots, IsFilled, IsCounted, IsKept, HasRoom, IsStore}
 use Rattle.cow_pages.specs.Steps.{SetsRow, KeepsLeaves, SameEntries, SameBytes, SeemsSame, AddsTable, Forks, Settled}
 use Rattle.cow_pages.proofs.GridLemmas.{held-empty}
-use Rattle.cow_pages.proofs.CountLemmas.{count-joined, count-here, count-other}
+use Rattle.cow_pages.proofs.CountLemmas.{count-joined, count-here, count-other, held-le, take-all}
 use Rattle.cow_pages.proofs.CodeLemmas.{table-here}
 use Rattle.cow_pages.proofs.ShownLemmas.{page_at-shown}
 use Rattle.cow_pages.proofs.StepLemmas.{HasPages-fewer, frames-same, leaves-row, entry_in-same}
 use Rattle.cow_pages.proofs.OpLemmas.{whole-same, fork_entries, fork_kept}
 use Rattle.cow_pages.proofs.FlatLemmas.{entry-flat}
-use Rattle.cow_pages.proofs.SeenLemmas.{page-kept, live-shown}
+use Rattle.cow_pages.proofs.SeenLemmas.{page-kept, live-shown, settled_entries}
 use Rattle.cow_pages.proofs.SoundLemmas.{leaves_counted}
 use Rattle.cow_pages.proofs.StoreLemmas.{IsCounted-same}
+use Rattle.cow_pages.proofs.SharedLemmas.{leaf_held, leaf_within}
+use Rattle.cow_pages.proofs.ReadLemmas.{grid_row}
 use Rattle.cow_pages.proofs.JoinLemmas.{joined-at, tables-same, memory-same}
 
 -- NUMBERS THAT NAME NO TABLE YET
@@ -426,3 +428,150 @@ pub copy_pages : (s m new : Store) (t u : ℕ) (table : Table) → IsStore s →
 copy_pages s m new t u table store wide seems a copy settled also p =
     page-kept m new wide.kept also.kept t p u p ((fork_entries m new t u (copy_forks m new t u table a copy settled)).here p) (λ e is. adds_bytes m new u table a e.frame)
     ∙ seems_pages s m store.kept wide.kept seems t p
+
+-- WHAT THE STEPS WANT
+
+-- a number that nobody has names no table
+pub free_number : (s : Store) → HasRoom s → (u : ℕ) → count_of s.table_counts u ≡ 0 → get_or s.tables.items u None ≡ None
+free_number s room u free = by (get_or s.tables.items u None) refl
+  where
+    by : (o : Option Table) → get_or s.tables.items u None ≡ o → get_or s.tables.items u None ≡ None
+    by None at = at
+    by (Some table) at = absurd (omega (arith, free, room.numbers u, ap (λ (o : Option Table). cond {A = ℕ} (is_some o) 1 0) at))
+
+pub rows-le : (g : List Row) (l : ℕ) → ((r : ℕ) → length (get_or g r []) ≤ 1024) → all_held leaf_key g l ≤ length g * 1024
+rows-le [] l rows = omega arith
+rows-le (row ∷ rest) l rows =
+    omega (
+      arith,
+      rows-le rest l (λ r. rows (suc r)),
+      held-le leaf_key row 1024 l,
+      ap (λ (it : Row). held leaf_key it l) (take-all row 1024 (rows 0)),
+    )
+
+pub row-le : (s : Store) → HasRoom s → (t : ℕ) → length (get_or (table_grid s) t []) ≤ 1024
+row-le s room t = by (get_or s.tables.items t None) refl
+  where
+    by : (o : Option Table) → get_or s.tables.items t None ≡ o → length (get_or (table_grid s) t []) ≤ 1024
+    by None at = omega (arith, ap (λ (row : Row). length row) (grid_row s.tables.items t ∙ ap row_of at))
+    by (Some table) at = omega (arith, room.rows t (ap (λ (o : Option Table). is_some o) at))
+
+-- each leaf may be shared once more by each place of a table
+pub leaves_fit : (s : Store) → IsStore s → (l : ℕ) → leaf_sharers s l + 1024 < 2 ^ 64
+leaves_fit s store l =
+    omega (
+      arith,
+      store.kept.counts.leaves l,
+      rows-le (table_grid s) l (row-le s store.room),
+      length-map s.tables.items row_of,
+      store.room.tables,
+      store.room.tables_tallied.few,
+    )
+
+-- a leaf of a table has a sharer
+pub row_leaf : (s : Store) → IsKept s → (t : ℕ) (row : Row) → row ≡ get_or (table_grid s) t [] → (i l : ℕ) → get_or row i None ≡ Some l → (l < length s.leaf_counts.counts) × (0 < leaf_sharers s l)
+row_leaf s kept t row same i l is =
+    let some = leaf_held s kept.counts t i l (ap (λ (it : Row). get_or it i None) (sym same) ∙ is) in
+    (leaf_within s l some, omega (arith, some))
+
+pub room_shares : (s : Store) (shares : Shares) → HasRoom s → AreTallied shares → HasRoom (record s { leaf_counts = shares })
+room_shares s shares room tallied = record {
+  frames = room.frames;
+  tables = room.tables;
+  frames_tallied = room.frames_tallied;
+  leaves_tallied = tallied;
+  tables_tallied = room.tables_tallied;
+  numbers = room.numbers;
+  rows = room.rows;
+  whole = room.whole;
+  bytes = room.bytes;
+}
+
+pub seems_used : (s new : Store) → IsStore s → IsStore new → SeemsSame s new → used_leaves (shown new) ≡ used_leaves (shown s)
+seems_used s new store also seems =
+    omega (
+      arith,
+      leaves_counted s store.kept store.room,
+      leaves_counted new also.kept also.room,
+      ap (λ (it : Store). it.leaf_counts.spare) seems.rest,
+      ap (λ (it : Store). length it.leaf_counts.counts) seems.rest,
+    )
+
+pub seems_room : (s new : Store) → SeemsSame s new → KeepsRoom (shown s) (shown new)
+seems_room s new seems = record {
+  frames = ap (λ (it : Store). length it.frames.items) seems.rest;
+  spare = ap (λ (it : Store). spare_of it) seems.rest;
+}
+
+-- A NEW TABLE, AND A FORK
+
+pub record NewTable (s new : Store) (u : ℕ) : Type 0 where
+  pub store : IsStore new
+  pub seen : Added s new u
+  pub pages : (p : ℕ) → page_at (shown new) u p ≡ None
+  pub none : (i : ℕ) → place_at new u i ≡ None
+
+pub new_begins : (s m new : Store) (u : ℕ) (table : Table) → IsStore s → IsStore m → SeemsSame s m → AddsTable m new u table → new ≡ record m { tables = new.tables; table_counts = new.table_counts } → IsBare table
+    → NewTable s new u
+new_begins s m new u table store wide seems adds rest bare =
+    let a : Adds m new u table = record {
+      adds = adds;
+      leaves = ap (λ (it : Store). it.leaves) rest;
+      frames = ap (λ (it : Store). it.frames) rest;
+      frame_counts = ap (λ (it : Store). it.frame_counts) rest;
+      reads = ap (λ (it : Store). it.reads) rest;
+      sharers = λ l. omega (arith, ap (λ (it : Store). leaf_sharers it l) rest, held-empty leaf_key table.leaves.items l (bare_at table bare));
+      len = ap (λ (it : Store). length it.leaf_counts.counts) rest;
+      spare = ap (λ (it : Store). it.leaf_counts.spare) rest;
+      tallied = subst (λ (it : Store). AreTallied it.leaf_counts) (sym rest) wide.room.leaves_tallied;
+    } in
+    let also = bare_store m new u table wide a bare in
+    record {
+      store = also;
+      seen = added s m new u table store wide seems a also;
+      pages = bare_pages new m u table also a bare;
+      none = bare_place m new u table adds bare;
+    }
+
+-- the leaves of a table got a sharer more for each place
+pub record SharesRow (s : Store) (table : Table) (shares : Shares) : Type 0 where
+  pub sharers : (l : ℕ) → count_of shares l ≡ leaf_sharers s l + held leaf_key table.leaves.items l
+  pub spare : shares.spare ≡ s.leaf_counts.spare
+  pub len : length shares.counts ≡ length s.leaf_counts.counts
+  pub tallied : AreTallied shares
+
+pub record ForkedTable (s new : Store) (t u : ℕ) : Type 0 where
+  pub store : IsStore new
+  pub seen : Added s new u
+  pub pages : (p : ℕ) → page_at (shown new) u p ≡ page_at (shown s) t p
+  pub same : (i : ℕ) → place_at new u i ≡ place_at s t i
+
+pub fork_begins : (s m new : Store) (t u : ℕ) (table : Table) (shares : Shares) → IsStore s → IsStore m → SeemsSame s m → IsTrue (is_some (get_or s.tables.items t None)) → IsSettled (shown s) t → IsCopy s t table → SharesRow m table shares
+    → AddsTable m new u table → new ≡ record m { leaf_counts = shares; tables = new.tables; table_counts = new.table_counts } → ForkedTable s new t u
+fork_begins s m new t u table shares store wide seems live unwritten copy more adds rest =
+    let is : new.leaf_counts ≡ shares = ap (λ (it : Store). it.leaf_counts) rest in
+    let a : Adds m new u table = record {
+      adds = adds;
+      leaves = ap (λ (it : Store). it.leaves) rest;
+      frames = ap (λ (it : Store). it.frames) rest;
+      frame_counts = ap (λ (it : Store). it.frame_counts) rest;
+      reads = ap (λ (it : Store). it.reads) rest;
+      sharers = λ l. ap (λ (it : Shares). count_of it l) is ∙ more.sharers l;
+      len = ap (λ (it : Shares). length it.counts) is ∙ more.len;
+      spare = ap (λ (it : Shares). it.spare) is ∙ more.spare;
+      tallied = subst AreTallied (sym is) more.tallied;
+    } in
+    let copied : IsCopy m t table = record {
+      leaves = copy.leaves ∙ sym (seems_row s m seems t);
+      mapped = copy.mapped ∙ sym (ap mapped_counts (seems.tables t));
+      written = copy.written ∙ sym (ap written_counts (seems.tables t));
+    } in
+    let plain = settled_entries s t store.kept unwritten in
+    let settled : Settled m t = (λ p e at. plain p e (sym (seems_entries s m seems t p) ∙ at)) in
+    let also = copy_store m new t u table wide a copied settled (ap (λ (o : Option Table). is_some o) (seems.tables t) ∙ live) in
+    record {
+      store = also;
+      seen = added s m new u table store wide seems a also;
+      pages = copy_pages s m new t u table store wide seems a copied settled also;
+      same = λ i. ap (λ (row : Row). get_or row i None) (adds_row m new u table adds ∙ copy.leaves);
+    }

@@ -10,7 +10,7 @@ use Rattle.cow_pages.specs.declared.store.Store.{Store}
 use Rattle.cow_pages.specs.Memory.{HasOneSharer}
 use Rattle.cow_pages.specs.Change.{ChangesPage, KeepsOrCopies, patched}
 use Rattle.cow_pages.specs.Grid.{cell, one_held, held}
-use Rattle.cow_pages.specs.Leaf.{cleared, one_mapped, one_written}
+use Rattle.cow_pages.specs.Leaf.{no_leaf, cleared, one_mapped, one_written}
 use Rattle.cow_pages.specs.Tables.{window_of, mapped_one, written_one}
 use Rattle.cow_pages.specs.Store.{Row, frame_key, leaf_key, leaf_grid, table_grid, bytes_of, frame_sharers, leaf_sharers, pages_kept, place_at, entry_at, mapped_kept, written_kept, shown, IsKept, HasRoom, CountsSlots, IsFilled, IsCounted}
 
@@ -348,3 +348,11 @@ pub record SharesLeaves (old new : Shares) (row : Row) (i : ℕ) : Type 0 where
   pub spare : new.spare ≡ old.spare
   pub len : length new.counts ≡ length old.counts
   pub tallied : AreTallied new
+
+-- the frames of a leaf's entries have one sharer less for each, and the leaf has no entry
+pub record EmptiesLeaf (s new : Store) (l : ℕ) : Type 0 where
+  pub sharers : (f : ℕ) → frame_sharers new f + held frame_key (slice_index_or (leaf_grid s) l []) f ≡ frame_sharers s f
+  pub spare : s.frame_counts.spare ≤ new.frame_counts.spare
+  pub len : length new.frame_counts.counts ≡ length s.frame_counts.counts
+  pub tallied : AreTallied new.frame_counts
+  pub leaves : new.leaves.items ≡ slice_set s.leaves.items l no_leaf

@@ -7,7 +7,7 @@ ghost use Rattle.cow_pages.specs.Change.{ChangesTable, FreesFrames, KeepsRoom, O
 ghost use Rattle.cow_pages.specs.Grid.{held};
 ghost use Rattle.cow_pages.specs.Store.{shown, leaf_key, leaf_grid, leaf_sharers, frame_sharers, mapped_counts, written_counts, place_at, table_grid, IsKept, IsStore, HasRoom};
 ghost use Rattle.cow_pages.specs.declared.store.Store.{Store};
-ghost use Rattle.cow_pages.specs.Steps.{AddsTable, ClearsWritten, LeavesPlace, Ending, SeemsSame, SettlesLeaf};
+ghost use Rattle.cow_pages.specs.Steps.{AddsTable, ClearsWritten, EmptiesLeaf, Ending, SeemsSame, SettlesLeaf};
 
 use crate::address::TABLE_LEAVES;
 use crate::leaf::Leaf;
@@ -25,6 +25,7 @@ impl Store {
         ensures pages { IfOk result (λ u. (p : ℕ) → page_at (shown self.new) u p ≡ None) }
         ensures rest { IfOk result (λ u. ChangesTable (shown self.old) (shown self.new) u) }
         ensures leaves { IfOk result (λ u. OtherLeaves (shown self.old) (shown self.new) u × ((i : ℕ) → leaf_in (shown self.new) u i ≡ None)) }
+        ensures used { used_leaves (shown self.new) ≡ used_leaves (shown self.old) }
         ensures room { KeepsRoom (shown self.old) (shown self.new) }
         ensures err { OnErr result (shown self.new ≡ shown self.old) }
     {
@@ -54,8 +55,7 @@ impl Store {
     }
 
     fn copy_table(&self, t: usize) -> Result<Table, AllocError>
-        requires store { IsStore self.now }
-        requires live { IsTrue (is_live (shown self.now) t) }
+        requires { IsTrue (is_some (slice_index_or self.now.tables.items t None)) }
         ensures leaves { IfOk result (λ it. it.leaves.items ≡ slice_index_or (table_grid self.now) t []) }
         ensures mapped { IfOk result (λ it. it.mapped ≡ mapped_counts (slice_index_or self.now.tables.items t None)) }
         ensures written { IfOk result (λ it. it.written ≡ written_counts (slice_index_or self.now.tables.items t None)) }
@@ -167,12 +167,26 @@ impl Store {
         requires place { place_at self.old t index ≡ Some leaf }
         ensures { (first : Store) → Ending first self.old t index → Ending first self.new t (index + 1) }
     {
+        self.empty_own(leaf);
+        self.leaf_counts.unshare(leaf);
+        self.set_place(t, index, None);
+    }
+
+    /// Takes its frames from a leaf that one table has, and its entries.
+    #[inline]
+    fn empty_own(&mut self, leaf: usize)
+        requires kept { IsKept self.old }
+        requires tallied { AreTallied self.old.frame_counts }
+        requires within { leaf < length self.old.leaves.items }
+        requires counts { leaf < length self.old.leaf_counts.counts }
+        ensures own { leaf_sharers self.old leaf ≡ 1 → EmptiesLeaf self.old self.new leaf }
+        ensures shared { leaf_sharers self.old leaf ≢ 1 → self.new ≡ self.old }
+        ensures rest { self.new ≡ record self.old { leaves = self.new.leaves; frame_counts = self.new.frame_counts } }
+    {
         if self.leaf_counts.holders(leaf) == 1 {
             self.unshare_row(leaf);
             self.leaves[leaf] = Leaf::empty();
         }
-        self.leaf_counts.unshare(leaf);
-        self.set_place(t, index, None);
     }
 }
 

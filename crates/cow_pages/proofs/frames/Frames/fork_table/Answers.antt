@@ -53,3 +53,6 @@ returns-clause-leaves c = rw (← c.self.view_is) c.in_ok-fork_table.ensures.lea
 
 pub returns-clause-used : goal.returns-clause-used
 returns-clause-used c = rw (← c.self.view_is) c.fork_table.ensures.used
+
+pub returns-in_err-fork_table-clause-used : goal.returns-in_err-fork_table-clause-used
+returns-in_err-fork_table-clause-used c = rw (← c.self.view_is) c.fork_table.ensures.used

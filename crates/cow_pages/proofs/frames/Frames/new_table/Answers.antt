@@ -46,3 +46,9 @@ returns-in_err-new_table-clause-err c = rw (← c.self.view_is) (on_err _ c.in_e
 
 pub returns-clause-leaves : goal.returns-clause-leaves
 returns-clause-leaves c = rw (← c.self.view_is) c.in_ok-new_table.ensures.leaves
+
+pub returns-clause-used : goal.returns-clause-used
+returns-clause-used c = rw (← c.self.view_is) c.new_table.ensures.used
+
+pub returns-in_err-new_table-clause-used : goal.returns-in_err-new_table-clause-used
+returns-in_err-new_table-clause-used c = rw (← c.self.view_is) c.new_table.ensures.used

@@ -2,7 +2,8 @@ use Rattle.std.proofs.Common.{◌≡◌, ◌≤◌, arith, ap}
 use Rattle.std.specs.Prelude.{◌-◌, IsOk}
 use Rattle.std.proofs.lemmas.Result.{on_ok_weaker}
 use Rattle.cow_pages.specs.Memory.{Memory, page_at}
-use Rattle.cow_pages.specs.Store.{shown, AddsRoom}
+use Rattle.cow_pages.specs.Store.{shown}
+use Rattle.cow_pages.specs.Steps.{AddsRoom}
 use Rattle.cow_pages.proofs.SoundLemmas.{sound}
 use Rattle.cow_pages.proofs.RoomLemmas.{by_result, rest_of}
 use Rattle.cow_pages.proofs.ViewLemmas.{SameView-pages}
