@@ -11,13 +11,13 @@ use Rattle.cow_pages.specs.View.{view_of, OthersSeen}
 use Rattle.cow_pages.proofs.ViewLemmas.{byte-is, byte-page, mapped-page, zeros-at, SameView-pages}
 use Rattle.image_space.specs.Space.{MapsPages, SeesPages}
 
--- n pages were mapped from this one on, each with one frame that was free
+-- n pages were mapped from this one on, each with one frame that was free, and no more than n are spare no longer
 pub record IsMapping (old new : Memory) (t first n : ℕ) : Type 0 where
   pub zeros : (p : ℕ) → first ≤ p → p < first + n → MapsZeros old new t p
   pub others : (u q : ℕ) → (u ≢ t) ⊎ ((q < first) ⊎ (first + n ≤ q)) → page_at new u q ≡ page_at old u q
   pub live : (u : ℕ) → is_live new u ≡ is_live old u
   pub reads : new.reads ≡ old.reads
-  pub spare : old.spare ≡ new.spare + n
+  pub spare : old.spare ≤ new.spare + n
   pub used : used_frames new ≡ used_frames old + n
 
 -- the pages were not mapped
@@ -62,8 +62,8 @@ module _ (old mid new : Memory) (t first n i : ℕ) (fresh : AreFresh old t firs
     | inr (same, from, to) ↦ absurd (frame-none old t q f (fresh q from (omega arith)) (ap (λ k. frame_at old k q) (sym same) ∙ is))
   ]
 
-  pub mapping-next : MapsZeros mid new t (first + i) → ChangesPage mid new t (first + i) → TakesOne mid new → mid.spare ≢ 0 → IsMapping old new t first (i + 1)
-  mapping-next z change one some = record {
+  pub mapping-next : MapsZeros mid new t (first + i) → ChangesPage mid new t (first + i) → TakesOne mid new → IsMapping old new t first (i + 1)
+  mapping-next z change one = record {
     zeros = λ p from to. elim (cases_eq p (first + i)) [
       | inl same ↦ subst (MapsZeros old new t) (sym same) (record {
         frame = z.frame;
@@ -89,7 +89,7 @@ module _ (old mid new : Memory) (t first n i : ℕ) (fresh : AreFresh old t firs
     ]);
     live = λ u. change.live u ∙ m.live u;
     reads = change.reads ∙ m.reads;
-    spare = omega (arith, m.spare, one.spare, some);
+    spare = omega (arith, m.spare, one.spare);
     used = omega (arith, m.used, one.used);
   }
 

@@ -8,7 +8,7 @@ loop-i-preserved c =
     let m = c.loop-i.invariant.maps in
     record {
       maps = mapping-next c.args.frames.now c.loop-i.frames c.map_zero.new.self c.args.t.0 c.args.first c.args.count i c.requires.fresh (omega arith) m
-          c.in-Ok.ensures.zeros c.in-Ok.ensures.rest c.in-Ok.ensures.one (omega (arith, m.spare));
+          c.in-Ok.ensures.zeros c.in-Ok.ensures.rest c.in-Ok.ensures.one;
       sound = c.map_zero.ensures.sound;
     }
 
