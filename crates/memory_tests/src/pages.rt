@@ -1,5 +1,6 @@
 //! Pages that tables share, and writes into them.
 use cow_pages::{Addr, Frames, PageNo};
+use page_runs::{map_run, release_run};
 use std::test::Fail;
 
 const PAGE: PageNo = PageNo(0x20000);
@@ -101,5 +102,19 @@ fn forks_many_times(rt: HostRuntime) -> Result<(), Fail> {
     assert_eq!(rt; frames.read_u8(t, AT), 0);
     assert_eq!(rt; frames.used(), 16385);
     assert_eq!(rt; frames.leaves_used(), 17);
+    Ok(())
+}
+
+// A run of pages over the end of a leaf, and what stays of it.
+#[test]
+fn maps_runs(rt: HostRuntime) -> Result<(), Fail> {
+    let mut frames = Frames::new(rt.alloc());
+    let t = frames.new_table()?;
+    map_run(&mut frames, t, PageNo(0x203fe), 4)?;
+    assert_eq!(rt; frames.used(), 4);
+    assert_eq!(rt; frames.leaves_used(), 2);
+    release_run(&mut frames, t, PageNo(0x203fe), 2);
+    assert_eq!(rt; frames.used(), 2);
+    assert_eq!(rt; frames.leaves_used(), 1);
     Ok(())
 }

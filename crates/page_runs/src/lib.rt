@@ -3,4 +3,4 @@
 
 mod runs;
 
-pub use runs::{map_run, release_run};
+pub use runs::{map_reserved, map_run, release_run};

@@ -26,23 +26,28 @@ pub fn map_run(frames: &mut Frames, t: TableNo, first: PageNo, count: u32) -> Re
     ensures sound { IsSound frames.new }
 {
     frames.reserve(count as usize)?;
-    map_pages(frames, t, first.0, count);
+    map_reserved(frames, t, first, count);
     Ok(())
 }
 
-/// Maps pages for which as many frames and leaves are free.
-fn map_pages(frames: &mut Frames, t: TableNo, first: u32, count: u32)
+/// Maps `count` pages from `first` on, for which as many frames and leaves are free.
+///
+/// For whoever makes sure of all memory that a step needs before the step changes anything.
+pub fn map_reserved(frames: &mut Frames, t: TableNo, first: PageNo, count: u32)
     requires live { IsTrue (is_live frames.old t.0) }
-    requires window { (p : ℕ) → IsInRun first count p → IsTrue (is_in_window p) }
-    requires unmapped { (p : ℕ) → IsInRun first count p → page_at frames.old t.0 p ≡ None }
-    requires fits { first + count ≤ page_limit }
+    requires window { (p : ℕ) → IsInRun first.0 count p → IsTrue (is_in_window p) }
+    requires unmapped { (p : ℕ) → IsInRun first.0 count p → page_at frames.old t.0 p ≡ None }
+    requires fits { first.0 + count ≤ page_limit }
     requires room { count ≤ frames.old.spare }
     requires sound { IsSound frames.old }
-    ensures maps { MapsRun frames.old frames.new t.0 first count }
+    ensures maps { MapsRun frames.old frames.new t.0 first.0 count }
+    ensures view { SeesRun (view_of frames.old t.0) (view_of frames.new t.0) first.0 count }
+    ensures others_seen { OthersSeen frames.old frames.new t.0 }
+    ensures only { OnlyTable frames.old frames.new t.0 }
     ensures sound { IsSound frames.new }
 {
     for i in 0..count {
-        match frames.map_zero(t, PageNo(first + i)) {
+        match frames.map_zero(t, PageNo(first.0 + i)) {
             Ok(()) => {}
             Err(_) => unreachable!(),
         }
