@@ -1,0 +1,4 @@
+pub mod Classes
+pub mod References
+pub mod Graph
+pub mod Numbering
