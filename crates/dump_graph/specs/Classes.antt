@@ -22,7 +22,7 @@ classes parts = filter_map class_of parts
 
 -- the first class dump with an identifier
 abbrev pub first_class : List Class → ℕ → Option Class
-first_class known id = find (λ c. nat_eq c.id id) known
+first_class known id = find (λ c. nat_eq id c.id) known
 
 -- the types of the fields of a class and of its superclasses, from the class upwards, where their first class dumps lead
 -- to superclass 0 by at most so many of them

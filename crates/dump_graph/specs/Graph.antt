@@ -6,6 +6,7 @@ use Rattle.hprof_records.specs.declared.sub_record.SubRecord.TheVariants.{Root, 
 use Rattle.hprof_records.specs.declared.top_record.TopRecord.{TopRecord}
 use Rattle.hprof_records.specs.declared.top_record.TopRecord.TheVariants.{Segment}
 use Rattle.dump_graph.specs.Classes.{Class, classes}
+use Rattle.dump_graph.specs.Firsts.{firsts}
 use Rattle.dump_graph.specs.References.{references}
 
 -- the parts of a dump's segments, in order
@@ -32,14 +33,9 @@ id_of (ObjectArray id stack class items) = id
 id_of (PrimitiveArray id stack code count bytes) = id
 id_of (NoData id stack count code) = id
 
--- parts without those whose identifier an earlier one has
-abbrev pub firsts : List SubRecord → List SubRecord
-firsts [] = []
-firsts (p ∷ ps) = p ∷ filter (λ q. not (nat_eq (id_of p) (id_of q))) (firsts ps)
-
 -- the nodes, each by its first part, in the order of the dump, and their identifiers
 abbrev pub nodes : List SubRecord → List SubRecord
-nodes ps = firsts (filter stands_for_node ps)
+nodes ps = firsts id_of (filter stands_for_node ps)
 
 abbrev pub node_ids : List SubRecord → List ℕ
 node_ids ps = map id_of (nodes ps)

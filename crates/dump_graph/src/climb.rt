@@ -1,5 +1,11 @@
 //! How far one comes from a class by its superclasses. It is worked out for all classes together, by putting climbs of as
 //! many steps as twice those before one behind the other, so that neither long chains of classes nor cycles make it slow.
+ghost use Rattle.std.specs.Prelude.{◌≡◌, ℕ, ◌<◌, length, map, get_or, IfOk, All};
+ghost use Rattle.std.specs.List.{range_with_len};
+ghost use Rattle.dump_graph.specs.Climbing.{AreClimbs, ComesWithin, if_fielded, join, lost, own_codes, standing, step_from};
+
+use crate::classes::KnownClass;
+use crate::numbers::Numbers;
 use std::alloc::{AllocError, Global};
 
 /// Where one stands after some steps up from a class: behind the last superclass, at a class, or at a superclass that no
@@ -7,7 +13,7 @@ use std::alloc::{AllocError, Global};
 #[derive(Clone, Copy, Debug, PartialEq, Eq)]
 pub(crate) enum Up {
     Top,
-    Class(usize),
+    Above(usize),
     Lost,
 }
 
@@ -19,9 +25,12 @@ pub(crate) struct Climb {
 }
 
 /// A climb, and from where it comes to the one of these that begins there.
-fn joined(one: Climb, more: &[Climb]) -> Climb {
+fn joined(one: Climb, more: &[Climb]) -> Climb
+    requires { ComesWithin (length more.now) one.next }
+    ensures { result ≡ join one (λ n. get_or more.now n lost) }
+{
     match one.next {
-        Up::Class(class) => {
+        Up::Above(class) => {
             let rest = more[class];
             Climb {
                 fielded: one.fielded.or(rest.fielded),
@@ -33,7 +42,10 @@ fn joined(one: Climb, more: &[Climb]) -> Climb {
 }
 
 /// The climbs from all classes, each with one of these others behind it.
-fn all_joined(alloc: Global, climbs: &[Climb], more: &[Climb]) -> Result<Vec<Climb>, AllocError> {
+fn all_joined(alloc: Global, climbs: &[Climb], more: &[Climb]) -> Result<Vec<Climb>, AllocError>
+    requires { All (λ c. ComesWithin (length more.now) c.next) climbs.now }
+    ensures { IfOk result (λ longer. longer.items ≡ map (λ c. join c (λ n. get_or more.now n lost)) climbs.now) }
+{
     let mut longer = Vec::with_capacity(alloc, climbs.len())?;
     for one in climbs {
         longer.push(joined(*one, more))?;
@@ -42,25 +54,82 @@ fn all_joined(alloc: Global, climbs: &[Climb], more: &[Climb]) -> Result<Vec<Cli
 }
 
 /// Climbs of no steps, from so many classes.
-fn standing(alloc: Global, count: usize) -> Result<Vec<Climb>, AllocError> {
+fn all_standing(alloc: Global, count: usize) -> Result<Vec<Climb>, AllocError>
+    ensures { IfOk result (λ climbs. climbs.items ≡ map standing (range_with_len 0 count)) }
+{
     let mut climbs = Vec::with_capacity(alloc, count)?;
     for class in 0..count {
         climbs.push(Climb {
             fielded: None,
-            next: Up::Class(class),
+            next: Up::Above(class),
         })?;
     }
     Ok(climbs)
 }
 
-/// The climbs of so many steps, by those of one step.
+/// The number of a class, if it has fields.
+fn if_fielded(known: &[KnownClass], class: usize) -> Option<usize>
+    requires { class < length known.now }
+    ensures { result ≡ if_fielded (own_codes known.now class) class }
+{
+    if known[class].codes.is_empty() {
+        None
+    } else {
+        Some(class)
+    }
+}
+
+/// The step from a class to its superclass.
+fn step_from(numbers: &Numbers, known: &[KnownClass], class: &KnownClass) -> Climb
+    requires { numbers.now ≡ map (λ c. c.id) known.now }
+    ensures { result ≡ step_from known.now class.now }
+{
+    if class.parent == 0 {
+        return Climb {
+            fielded: None,
+            next: Up::Top,
+        };
+    }
+    match numbers.number_of(class.parent) {
+        None => Climb {
+            fielded: None,
+            next: Up::Lost,
+        },
+        Some(parent) => Climb {
+            fielded: if_fielded(known, parent),
+            next: Up::Above(parent),
+        },
+    }
+}
+
+/// The step up from each class.
+fn all_steps(
+    alloc: Global,
+    numbers: &Numbers,
+    known: &[KnownClass],
+) -> Result<Vec<Climb>, AllocError>
+    requires { numbers.now ≡ map (λ c. c.id) known.now }
+    ensures { IfOk result (λ steps. steps.items ≡ map (step_from known.now) known.now) }
+{
+    let mut steps = Vec::with_capacity(alloc, known.len())?;
+    for class in known {
+        steps.push(step_from(numbers, known, class))?;
+    }
+    Ok(steps)
+}
+
+/// The climbs of so many steps from all classes.
 pub(crate) fn climbed(
     alloc: Global,
-    one_step: Vec<Climb>,
+    numbers: &Numbers,
+    known: &[KnownClass],
     steps: usize,
-) -> Result<Vec<Climb>, AllocError> {
-    let mut climbs = standing(alloc, one_step.len())?;
-    let mut power = one_step;
+) -> Result<Vec<Climb>, AllocError>
+    requires { numbers.now ≡ map (λ c. c.id) known.now }
+    ensures { IfOk result (λ climbs. AreClimbs known.now steps climbs.items) }
+{
+    let mut climbs = all_standing(alloc, known.len())?;
+    let mut power = all_steps(alloc, numbers, known)?;
     let mut left = steps;
     while left > 0 {
         if left % 2 == 1 {

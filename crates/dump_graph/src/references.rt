@@ -1,4 +1,10 @@
 //! To what a part of a dump refers.
+ghost use Rattle.std.specs.Prelude.{◌≡◌, ◌<◌, ◌≤◌, ◌++◌, drop, length, sum_by, option_to_list, IfOk, OnOk, MatchOption};
+ghost use Rattle.std.specs.List.{filter_map};
+ghost use Rattle.hprof_records.specs.Types.{value_bytes};
+ghost use Rattle.dump_graph.specs.References.{reference, references_in};
+ghost use Rattle.dump_graph.specs.Tables.{known_references};
+
 use crate::classes::Classes;
 use hprof_records::{Bytes, SubRecord, TypeCode, u32_at};
 use std::alloc::{AllocError, Global};
@@ -7,7 +13,9 @@ use std::alloc::{AllocError, Global};
 const REFERENCE: u8 = 2;
 
 /// The identifier that a value of a type is, where it is a reference.
-fn reference(code: u8, value: &[u8]) -> Option<u32> {
+fn reference(code: u8, value: &[u8]) -> Option<u32>
+    ensures { result ≡ reference code value.now }
+{
     if code == REFERENCE {
         u32_at(value, 0)
     } else {
@@ -16,11 +24,23 @@ fn reference(code: u8, value: &[u8]) -> Option<u32> {
 }
 
 /// How many bytes a value has, by the code of its type.
-fn size_of(code: u8) -> usize {
+fn size_of(code: u8) -> usize
+    ensures { result ≡ value_bytes code }
+{
     match TypeCode::of(code) {
         Some(known) => known.bytes() as usize,
         None => 0,
     }
+}
+
+/// Puts the identifier that the first value is behind others, where it is a reference.
+fn add_reference(code: u8, value: &[u8], found: &mut Vec<u32>) -> Result<(), AllocError>
+    ensures { OnOk result (found.new.items ≡ found.old.items ++ option_to_list (reference code value.now)) }
+{
+    if let Some(id) = reference(code, value) {
+        found.push(id)?;
+    }
+    Ok(())
 }
 
 /// Reads values that stand one after another, by the codes of their types, and puts the references among them behind
@@ -29,12 +49,14 @@ pub(crate) fn read_fields<'a>(
     codes: &[u8],
     bytes: &'a [u8],
     found: &mut Vec<u32>,
-) -> Result<Option<&'a [u8]>, AllocError> {
+) -> Result<Option<&'a [u8]>, AllocError>
+    ensures { IfOk result (λ o. MatchOption o (length bytes.now < sum_by value_bytes codes.now)
+        (λ after. (sum_by value_bytes codes.now ≤ length bytes.now) × (after.now ≡ drop (sum_by value_bytes codes.now) bytes.now)
+        × (found.new.items ≡ found.old.items ++ references_in codes.now bytes.now))) }
+{
     let mut rest = bytes;
     for code in codes {
-        if let Some(id) = reference(*code, rest) {
-            found.push(id)?;
-        }
+        add_reference(*code, rest, found)?;
         let Some(after) = rest.get(size_of(*code)..) else {
             return Ok(None);
         };
@@ -47,12 +69,12 @@ pub(crate) fn read_fields<'a>(
 fn static_references(
     alloc: Global,
     statics: &[(u32, u8, Bytes)],
-) -> Result<Vec<u32>, AllocError> {
+) -> Result<Vec<u32>, AllocError>
+    ensures { IfOk result (λ r. r.items ≡ filter_map (λ s. reference s.1 s.2) statics.now) }
+{
     let mut found = Vec::new(alloc);
     for one in statics {
-        if let Some(id) = reference(one.1, one.2.as_slice()) {
-            found.push(id)?;
-        }
+        add_reference(one.1, one.2.as_slice(), &mut found)?;
     }
     Ok(found)
 }
@@ -62,7 +84,9 @@ pub(crate) fn references(
     alloc: Global,
     classes: &Classes,
     part: &SubRecord,
-) -> Result<Vec<u32>, AllocError> {
+) -> Result<Vec<u32>, AllocError>
+    ensures { IfOk result (λ r. r.items ≡ known_references classes.now part.now) }
+{
     match part {
         SubRecord::Instance { class, bytes, .. } => {
             classes.references(alloc, *class, bytes.as_slice())

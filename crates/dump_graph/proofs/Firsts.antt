@@ -1,0 +1,51 @@
+-- What stands first in a list under its identifier.
+use Rattle.std.proofs.Common.{◌≡◌, ℕ, ◌||◌, Bool, true, false, cond, not, nat_eq, List, [], ◌∷◌, ◌++◌, map, refl, ap, sym, ◌∙◌, subst}
+use Rattle.std.specs.Prelude.{filter}
+use Rattle.std.specs.List.{list_any}
+use Rattle.std.proofs.lemmas.List.{append-nil}
+use Rattle.std.proofs.lemmas.List.Elements.{filter-append}
+use Rattle.dump_graph.specs.Firsts.{firsts}
+use Rattle.dump_graph.proofs.Positions.{equal_from, nat_eq-sym, nat_eq-same}
+
+module _ {X : Type 0} (f : X → ℕ) where
+  -- taking out the elements that are the same as another one leaves those that are the same as x
+  any-kept : (a b : ℕ) → nat_eq a b ≡ false → (l : List X) → list_any (nat_eq b) (map f (filter (λ q. not (nat_eq a (f q))) l)) ≡ list_any (nat_eq b) (map f l)
+  any-kept a b apart [] = refl
+  any-kept a b apart (q ∷ l) = by (any-kept a b apart l) (nat_eq a (f q)) refl
+    where
+      by : list_any (nat_eq b) (map f (filter (λ q. not (nat_eq a (f q))) l)) ≡ list_any (nat_eq b) (map f l) → (t : Bool) → nat_eq a (f q) ≡ t
+          → list_any (nat_eq b) (map f (cond (not t) (q ∷ filter (λ q. not (nat_eq a (f q))) l) (filter (λ q. not (nat_eq a (f q))) l))) ≡ (nat_eq b (f q) || list_any (nat_eq b) (map f l))
+      by rest true is =
+          let same : nat_eq b (f q) ≡ false = subst (λ z. nat_eq b z ≡ false) (equal_from a (f q) is) (nat_eq-sym b a ∙ apart) in
+          rest ∙ ap (λ t. t || list_any (nat_eq b) (map f l)) (sym same)
+      by rest false is = ap (λ t. nat_eq b (f q) || t) rest
+
+  pub firsts-push : (x : X) (xs : List X) → firsts f (xs ++ x ∷ []) ≡ cond (list_any (nat_eq (f x)) (map f (firsts f xs))) (firsts f xs) (firsts f xs ++ x ∷ [])
+  firsts-push x [] = refl
+  firsts-push x (p ∷ ps) = by (firsts-push x ps) (nat_eq (f p) (f x)) refl
+    where
+      other : X → Bool
+      other q = not (nat_eq (f p) (f q))
+
+      same : nat_eq (f p) (f x) ≡ true → (c : Bool) → filter other (cond c (firsts f ps) (firsts f ps ++ x ∷ [])) ≡ filter other (firsts f ps)
+      same is true = refl
+      same is false = filter-append other (firsts f ps) (x ∷ []) ∙ (ap (λ t. filter other (firsts f ps) ++ cond (not t) (x ∷ []) []) is ∙ append-nil (filter other (firsts f ps)))
+
+      apart : nat_eq (f p) (f x) ≡ false → (c : Bool) → filter other (cond c (firsts f ps) (firsts f ps ++ x ∷ [])) ≡ cond c (filter other (firsts f ps)) (filter other (firsts f ps) ++ x ∷ [])
+      apart is true = refl
+      apart is false = filter-append other (firsts f ps) (x ∷ []) ∙ ap (λ t. filter other (firsts f ps) ++ cond (not t) (x ∷ []) []) is
+
+      pushed : (c : Bool) → p ∷ cond c (filter other (firsts f ps)) (filter other (firsts f ps) ++ x ∷ []) ≡ cond c (p ∷ filter other (firsts f ps)) ((p ∷ filter other (firsts f ps)) ++ x ∷ [])
+      pushed true = refl
+      pushed false = refl
+
+      by : firsts f (ps ++ x ∷ []) ≡ cond (list_any (nat_eq (f x)) (map f (firsts f ps))) (firsts f ps) (firsts f ps ++ x ∷ []) → (t : Bool) → nat_eq (f p) (f x) ≡ t
+          → p ∷ filter other (firsts f (ps ++ x ∷ [])) ≡ cond (nat_eq (f x) (f p) || list_any (nat_eq (f x)) (map f (filter other (firsts f ps)))) (p ∷ filter other (firsts f ps)) ((p ∷ filter other (firsts f ps)) ++ x ∷ [])
+      by rest true is =
+          ap (λ l. p ∷ filter other l) rest ∙ (ap (λ l. p ∷ l) (same is (list_any (nat_eq (f x)) (map f (firsts f ps))))
+          ∙ sym (ap (λ t. cond (t || list_any (nat_eq (f x)) (map f (filter other (firsts f ps)))) (p ∷ filter other (firsts f ps)) ((p ∷ filter other (firsts f ps)) ++ x ∷ [])) (nat_eq-sym (f x) (f p) ∙ is)))
+      by rest false is =
+          let c = list_any (nat_eq (f x)) (map f (firsts f ps)) in
+          ap (λ l. p ∷ filter other l) rest ∙ (ap (λ l. p ∷ l) (apart is c) ∙ (pushed c
+          ∙ (sym (ap (λ t. cond t (p ∷ filter other (firsts f ps)) ((p ∷ filter other (firsts f ps)) ++ x ∷ [])) (any-kept (f p) (f x) is (firsts f ps)))
+          ∙ sym (ap (λ t. cond (t || list_any (nat_eq (f x)) (map f (filter other (firsts f ps)))) (p ∷ filter other (firsts f ps)) ((p ∷ filter other (firsts f ps)) ++ x ∷ [])) (nat_eq-sym (f x) (f p) ∙ is)))))
