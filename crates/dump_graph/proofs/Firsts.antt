@@ -1,7 +1,7 @@
 -- What stands first in a list under its identifier.
-use Rattle.std.proofs.Common.{◌≡◌, ℕ, ◌||◌, Bool, true, false, cond, not, nat_eq, List, [], ◌∷◌, ◌++◌, map, refl, ap, sym, ◌∙◌, subst}
+use Rattle.std.proofs.Common.{◌≡◌, ℕ, ◌||◌, Bool, true, false, cond, not, nat_eq, List, [], ◌∷◌, ◌++◌, map, Some, refl, ap, sym, ◌∙◌, subst}
 use Rattle.std.specs.Prelude.{filter}
-use Rattle.std.specs.List.{list_any}
+use Rattle.std.specs.List.{find, list_any}
 use Rattle.std.proofs.lemmas.List.{append-nil}
 use Rattle.std.proofs.lemmas.List.Elements.{filter-append}
 use Rattle.dump_graph.specs.Firsts.{firsts}
@@ -49,3 +49,24 @@ module _ {X : Type 0} (f : X → ℕ) where
           ap (λ l. p ∷ filter other l) rest ∙ (ap (λ l. p ∷ l) (apart is c) ∙ (pushed c
           ∙ (sym (ap (λ t. cond t (p ∷ filter other (firsts f ps)) ((p ∷ filter other (firsts f ps)) ++ x ∷ [])) (any-kept (f p) (f x) is (firsts f ps)))
           ∙ sym (ap (λ t. cond (t || list_any (nat_eq (f x)) (map f (filter other (firsts f ps)))) (p ∷ filter other (firsts f ps)) ((p ∷ filter other (firsts f ps)) ++ x ∷ [])) (nat_eq-sym (f x) (f p) ∙ is)))))
+
+  find-kept : (a id : ℕ) → nat_eq id a ≡ false → (l : List X) → find (λ x. nat_eq id (f x)) (filter (λ q. not (nat_eq a (f q))) l) ≡ find (λ x. nat_eq id (f x)) l
+  find-kept a id apart [] = refl
+  find-kept a id apart (q ∷ l) = by (find-kept a id apart l) (nat_eq a (f q)) refl
+    where
+      by : find (λ x. nat_eq id (f x)) (filter (λ q. not (nat_eq a (f q))) l) ≡ find (λ x. nat_eq id (f x)) l → (t : Bool) → nat_eq a (f q) ≡ t
+          → find (λ x. nat_eq id (f x)) (cond (not t) (q ∷ filter (λ q. not (nat_eq a (f q))) l) (filter (λ q. not (nat_eq a (f q))) l)) ≡ cond (nat_eq id (f q)) (Some q) (find (λ x. nat_eq id (f x)) l)
+      by rest true is =
+          let same : nat_eq id (f q) ≡ false = subst (λ z. nat_eq id z ≡ false) (equal_from a (f q) is) apart in
+          rest ∙ ap (λ t. cond t (Some q) (find (λ x. nat_eq id (f x)) l)) (sym same)
+      by rest false is = ap (λ o. cond (nat_eq id (f q)) (Some q) o) rest
+
+  -- the first with an identifier is the same
+  pub find-firsts : (id : ℕ) (xs : List X) → find (λ x. nat_eq id (f x)) (firsts f xs) ≡ find (λ x. nat_eq id (f x)) xs
+  find-firsts id [] = refl
+  find-firsts id (x ∷ xs) = by (find-firsts id xs) (nat_eq id (f x)) refl
+    where
+      by : find (λ y. nat_eq id (f y)) (firsts f xs) ≡ find (λ y. nat_eq id (f y)) xs → (t : Bool) → nat_eq id (f x) ≡ t
+          → cond t (Some x) (find (λ y. nat_eq id (f y)) (filter (λ q. not (nat_eq (f x) (f q))) (firsts f xs))) ≡ cond t (Some x) (find (λ y. nat_eq id (f y)) xs)
+      by rest true is = refl
+      by rest false is = find-kept (f x) id is (firsts f xs) ∙ rest

@@ -1,2 +1,4 @@
 pub mod Positions
 pub mod Firsts
+pub mod Climbs
+pub mod Layouts

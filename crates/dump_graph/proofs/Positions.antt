@@ -1,7 +1,7 @@
 -- Places of numbers in lists.
-use Rattle.std.proofs.Common.{◌≡◌, ℕ, zero, suc, ◌+◌, ◌<◌, ◌≤◌, Bool, true, false, cond, not, nat_eq, nat_lt, List, [], ◌∷◌, ◌++◌, length, get_or, Option, None, Some, option_map, refl, ap, sym, ◌∙◌, arith, length-append, subst}
+use Rattle.std.proofs.Common.{◌≡◌, ℕ, zero, suc, ◌+◌, ◌<◌, ◌≤◌, Bool, true, false, cond, not, nat_eq, nat_lt, List, [], ◌∷◌, ◌++◌, map, length, get_or, Option, None, Some, option_map, refl, ap, sym, ◌∙◌, arith, length-append, subst}
 use Rattle.std.specs.Prelude.{position, filter}
-use Rattle.std.specs.List.{list_any, position_or_len}
+use Rattle.std.specs.List.{find, list_any, position_or_len}
 use Rattle.std.specs.Option.{option_or}
 use Rattle.std.proofs.lemmas.List.Sums.{passes_at_first, fails_before_first}
 use Rattle.std.proofs.lemmas.List.Folds.{list_any_none}
@@ -76,3 +76,19 @@ apart-push xs y apart new k within = by (nat_lt k (length xs)) refl
         let is : get_or (xs ++ y ∷ []) k 0 ≡ y = grind (arith, common_steps) in
         subst (λ z. position (nat_eq z) (xs ++ y ∷ []) ≡ Some k) (sym is)
         (position-push (nat_eq y) y xs ∙ (ap (λ o. option_or o (cond (nat_eq y y) (Some (length xs)) None)) new ∙ (ap (λ b. cond b (Some (length xs)) None) (nat_eq-same y) ∙ ap Some (sym at))))
+
+-- what is found first stands at its identifier's place
+pub find-by-position : {X : Type 0} (f : X → ℕ) (id : ℕ) (d : X) (xs : List X) → find (λ x. nat_eq id (f x)) xs ≡ option_map (λ n. get_or xs n d) (position (nat_eq id) (map f xs))
+find-by-position f id d [] = refl
+find-by-position {X} f id d (x ∷ xs) =
+    by (find-by-position f id d xs) (nat_eq id (f x))
+    ∙ sym (ap (option_map (λ n. get_or (x ∷ xs) n d)) (position-cons (nat_eq id) (f x) (map f xs)))
+  where
+    later-one : (o : Option ℕ) → option_map (λ n. get_or xs n d) o ≡ option_map (λ n. get_or (x ∷ xs) n d) (option_map suc o)
+    later-one None = refl
+    later-one (Some n) = refl
+
+    by : find (λ y. nat_eq id (f y)) xs ≡ option_map (λ n. get_or xs n d) (position (nat_eq id) (map f xs)) → (b : Bool)
+        → cond b (Some x) (find (λ y. nat_eq id (f y)) xs) ≡ option_map (λ n. get_or (x ∷ xs) n d) (cond b (Some 0) (option_map suc (position (nat_eq id) (map f xs))))
+    by rest true = refl
+    by rest false = rest ∙ later-one (position (nat_eq id) (map f xs))

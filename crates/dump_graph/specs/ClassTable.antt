@@ -21,7 +21,7 @@ if_top Lost n = None
 
 -- the number of a class whose superclasses are known up to the top
 abbrev pub laid_out : List Class → ℕ → ℕ → Option ℕ
-laid_out known dumps id = option_and_then (position (nat_eq id) (map (λ c. c.id) known)) (λ n. if_top (climb known dumps n).next n)
+laid_out known dumps id = option_and_then (λ n. if_top (climb known dumps n).next n) (position (nat_eq id) (map (λ c. c.id) known))
 
 -- a number of such a class
 abbrev pub IsLaidOut : List Class → ℕ → ℕ → Type 0

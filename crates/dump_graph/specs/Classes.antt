@@ -29,9 +29,10 @@ first_class known id = find (λ c. nat_eq id c.id) known
 abbrev pub codes_within : List Class → ℕ → ℕ → Option (List ℕ)
 codes_within known zero id = None
 codes_within known (suc steps) id =
-    option_and_then (first_class known id) (λ c.
+    option_and_then (λ c.
     if nat_eq c.parent 0 then Some c.codes
     else option_map (λ above. c.codes ++ above) (codes_within known steps c.parent))
+    (first_class known id)
 
 -- the types of an instance's values by its class, where the first class dumps of the class and of its superclasses lead
 -- to superclass 0 without a repeat: then there are no more of them than class dumps

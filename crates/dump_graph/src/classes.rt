@@ -30,8 +30,9 @@ impl Model for KnownClass {
 fn codes_of(alloc: Global, fields: &FieldNames) -> Result<Vec<u8>, AllocError>
     ensures { IfOk result (λ codes. codes.items ≡ map (λ f. f.1) fields.now) }
 {
+    let list = fields.as_slice();
     let mut codes = Vec::new(alloc);
-    for field in fields.as_slice() {
+    for field in list {
         codes.push(field.1)?;
     }
     Ok(codes)
@@ -167,7 +168,8 @@ impl Classes {
             let Some(number) = at else {
                 break;
             };
-            let Some(after) = read_fields(&self.known[number].codes, rest, found)? else {
+            let one = &self.known[number];
+            let Some(after) = read_fields(&one.codes, rest, found)? else {
                 return Ok(false);
             };
             rest = after;

@@ -72,7 +72,8 @@ fn if_fielded(known: &[KnownClass], class: usize) -> Option<usize>
     requires { class < length known.now }
     ensures { result ≡ if_fielded (own_codes known.now class) class }
 {
-    if known[class].codes.is_empty() {
+    let one = &known[class];
+    if one.codes.is_empty() {
         None
     } else {
         Some(class)

@@ -5,13 +5,14 @@ ghost use Rattle.dump_graph.specs.Graph.{parts, parts_of};
 use hprof_records::{SubRecord, TopRecord};
 use std::alloc::{AllocError, Global};
 
-/// Puts the parts of a record behind others.
-fn add_parts<'a>(found: &mut Vec<&'a SubRecord>, record: &'a TopRecord) -> Result<(), AllocError>
-    ensures { OnOk result (map (λ p. p.now) found.new.items ≡ map (λ p. p.now) found.old.items ++ parts_of record.now) }
+/// Puts the parts of one record behind others.
+fn add_parts<'a>(found: &mut Vec<&'a SubRecord>, one: &'a TopRecord) -> Result<(), AllocError>
+    ensures { OnOk result (map (λ p. p.now) found.new.items ≡ map (λ p. p.now) found.old.items ++ parts_of one.now) }
 {
-    match record {
+    match one {
         TopRecord::Segment { parts, .. } => {
-            for part in parts.as_slice() {
+            let list = parts.as_slice();
+            for part in list {
                 found.push(part)?;
             }
             Ok(())
@@ -28,8 +29,8 @@ pub(crate) fn parts_of<'a>(
     ensures { IfOk result (λ found. map (λ p. p.now) found.items ≡ parts records.now) }
 {
     let mut found = Vec::new(alloc);
-    for record in records {
-        add_parts(&mut found, record)?;
+    for one in records {
+        add_parts(&mut found, one)?;
     }
     Ok(found)
 }
