@@ -81,3 +81,69 @@ gathers known (suc s) n within top =
     by f Top is below same up rest = subst (GathersBy known (suc s) n) (sym is) (ap (λ l. own_codes known n ++ l) same ∙ append-nil (own_codes known n))
     by f (Above p) is below same up rest = at f p below (ap (λ l. own_codes known n ++ l) same) up (rest p below up) (own_codes known p) refl is
     by f Lost is below same up rest = absurd cc
+
+-- the codes, where one came to the top
+abbrev if_up : Up → List ℕ → Option (List ℕ)
+if_up Top l = Some l
+if_up (Above p) l = None
+if_up Lost l = None
+
+if-top-up : (f : ℕ → List ℕ) (n : ℕ) (u : Up) → option_map f (if_top u n) ≡ if_up u (f n)
+if-top-up f n Top = refl
+if-top-up f n (Above p) = refl
+if-top-up f n Lost = refl
+
+-- a class that isn't known
+abbrev no_class : Class
+no_class = record { id = 0; parent = 0; codes = [] }
+
+module _ (known : List Class) (s : ℕ) (before : (id : ℕ) → codes_within known s id ≡ option_map (gathered known s) (laid_out known s id)) where
+  -- the codes of a class, and those that are gathered above it
+  abbrev codes_from : Class → Option (List ℕ)
+  codes_from c = cond (nat_eq c.parent 0) (Some c.codes) (option_map (λ above. c.codes ++ above) (codes_within known s c.parent))
+
+  abbrev gathers_up : Climb → List ℕ → Option (List ℕ)
+  gathers_up one codes = if_up (join_at one.fielded one.next (climb known s)).next (codes ++ codes_above one.next (gathered known s))
+
+  up : (codes : List ℕ) (p : ℕ) (u : Up) → option_map (λ above. codes ++ above) (option_map (gathered known s) (if_top u p)) ≡ if_up u (codes ++ gathered known s p)
+  up codes p Top = refl
+  up codes p (Above q) = refl
+  up codes p Lost = refl
+
+  from-found : (codes : List ℕ) (o : Option ℕ) → option_map (λ above. codes ++ above) (option_map (gathered known s) (option_and_then (λ n. if_top (climb known s n).next n) o)) ≡ gathers_up (step_to known o) codes
+  from-found codes None = refl
+  from-found codes (Some p) = up codes p (climb known s p).next
+
+  from-class : (c : Class) → codes_from c ≡ gathers_up (step_from known c) c.codes
+  from-class c = by (nat_eq c.parent 0)
+    where
+      by : (b : Bool) → cond b (Some c.codes) (option_map (λ above. c.codes ++ above) (codes_within known s c.parent))
+          ≡ gathers_up (cond b (record { fielded = None; next = Top }) (step_to known (position (nat_eq c.parent) (map (λ x. x.id) known)))) c.codes
+      by true = ap Some (sym (append-nil c.codes))
+      by false = ap (option_map (λ above. c.codes ++ above)) (before c.parent) ∙ from-found c.codes (position (nat_eq c.parent) (map (λ x. x.id) known))
+
+  from-number : (n : ℕ) → n < length known → codes_from (get_or known n no_class) ≡ gathers_up (step known n) (own_codes known n)
+  from-number n within =
+      from-class (get_or known n no_class)
+      ∙ (ap (λ one. gathers_up one (get_or known n no_class).codes) (sym (get_or-map (step_from known) known n no_class lost within))
+      ∙ ap (gathers_up (step known n)) (sym (get_or-map (λ (c : Class). c.codes) known n no_class [] within)))
+
+  from-place : (id : ℕ) (o : Option ℕ) → ((n : ℕ) → o ≡ Some n → n < length known)
+      → option_and_then codes_from (option_map (λ n. get_or known n no_class) o) ≡ option_map (gathered known (suc s)) (option_and_then (λ n. if_top (climb known (suc s) n).next n) o)
+  from-place id None within = refl
+  from-place id (Some n) within = from-number n (within n refl) ∙ sym (if-top-up (gathered known (suc s)) n (climb known (suc s) n).next)
+
+  pub codes-next : (id : ℕ) → codes_within known (suc s) id ≡ option_map (gathered known (suc s)) (laid_out known (suc s) id)
+  codes-next id =
+      ap (option_and_then codes_from) (find-by-position (λ (c : Class). c.id) id no_class known)
+      ∙ from-place id (position (nat_eq id) (map (λ c. c.id) known))
+      (λ n is. omega (arith, (position-at (nat_eq id) (map (λ c. c.id) known) n 0 is).0, length-map (λ (x : Class). x.id) known))
+
+codes-none : (known : List Class) (o : Option ℕ) → None ≡ option_map (gathered known 0) (option_and_then (λ n. if_top (climb known 0 n).next n) o)
+codes-none known None = refl
+codes-none known (Some n) = refl
+
+-- the types of an instance's values are those that a climb to the top gathers
+pub codes-by-climb : (known : List Class) (s id : ℕ) → codes_within known s id ≡ option_map (gathered known s) (laid_out known s id)
+codes-by-climb known zero id = codes-none known (position (nat_eq id) (map (λ c. c.id) known))
+codes-by-climb known (suc s) id = codes-next known s (codes-by-climb known s) id

@@ -1,4 +1,8 @@
 pub mod Positions
 pub mod Firsts
+pub mod Numberings
 pub mod Climbs
+pub mod ClimbTables
 pub mod Layouts
+pub mod Nodes
+pub mod Marks

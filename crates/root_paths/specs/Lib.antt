@@ -1,3 +1,4 @@
 pub mod Paths
 pub mod Answer
 pub mod Putting
+pub mod Reaching

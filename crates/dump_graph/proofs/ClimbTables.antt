@@ -1,0 +1,59 @@
+-- The climbs from all classes, as lists.
+use Rattle.std.proofs.Common.{◌≡◌, ℕ, zero, suc, ◌+◌, ◌<◌, List, map, length, get_or, Option, None, Some, refl, ap, sym, ◌∙◌, arith, subst, length-map}
+use Rattle.std.specs.Prelude.{All}
+use Rattle.std.specs.Option.{option_or}
+use Rattle.std.specs.List.{range_with_len}
+use Rattle.std.proofs.lemmas.List.{get_or-map, get_or_default}
+use Rattle.std.proofs.lemmas.List.FromFn.{get_or-map-range_with_len, length-range_with_len}
+use Rattle.dump_graph.specs.Classes.{Class}
+use Rattle.dump_graph.specs.Climbing.{AreClimbs, ComesWithin, climb, join, join_at, lost, standing, step, step_from}
+use Rattle.dump_graph.specs.declared.climb.Climb.{Climb}
+use Rattle.dump_graph.specs.declared.climb.Up.{Up}
+use Rattle.dump_graph.specs.declared.climb.Up.TheVariants.{Top, Above, Lost}
+use Rattle.dump_graph.proofs.Climbs.{climb-more, climb-within}
+
+option_or-none : {X : Type 0} (o : Option X) → option_or o None ≡ o
+option_or-none None = refl
+option_or-none (Some x) = refl
+
+join-standing : (one : Climb) → join one standing ≡ one
+join-standing one = by one.next
+  where
+    by : (u : Up) → join_at one.fielded u standing ≡ record { fielded = one.fielded; next = u }
+    by Top = refl
+    by (Above p) = ap (λ (o : Option ℕ). let c : Climb = record { fielded = o; next = Above p } in c) (option_or-none one.fielded)
+    by Lost = refl
+
+-- those of no steps, and of one
+pub climbs-standing : (known : List Class) → AreClimbs known 0 (map standing (range_with_len 0 (length known)))
+climbs-standing known =
+    (length-map standing (range_with_len 0 (length known)) ∙ length-range_with_len 0 (length known),
+    λ k within. get_or-map-range_with_len standing 0 (length known) k k lost within (omega arith))
+
+pub climbs-steps : (known : List Class) → AreClimbs known 1 (map (step_from known) known)
+climbs-steps known = (length-map (step_from known) known, λ k within. sym (join-standing (step known k)))
+
+join-same : (count : ℕ) (one : Climb) (more rest : ℕ → Climb) → ComesWithin count one.next → ((p : ℕ) → p < count → more p ≡ rest p) → join one more ≡ join one rest
+join-same count one more rest comes same = by one.next comes
+  where
+    by : (u : Up) → ComesWithin count u → join_at one.fielded u more ≡ join_at one.fielded u rest
+    by Top comes = refl
+    by (Above p) comes = ap (λ (c : Climb). let d : Climb = record { fielded = option_or one.fielded c.fielded; next = c.next } in d) (same p comes)
+    by Lost comes = refl
+
+-- each comes to a known class, or to none
+pub climbs-within : (known : List Class) (s count : ℕ) (xs : List Climb) → AreClimbs known s xs → count ≡ length known → All (λ c. ComesWithin count c.next) xs
+climbs-within known s count xs are is k d within =
+    let below : k < length known = omega (arith, are.0, within) in
+    let same : get_or xs k d ≡ climb known s k = get_or_default xs k d lost within ∙ are.1 k below in
+    subst (λ (one : Climb). ComesWithin count one.next) (sym same) (subst (λ n. ComesWithin n (climb known s k).next) (sym is) (climb-within known s k below))
+
+-- climbs and others behind them
+pub climbs-joined : (known : List Class) (s t : ℕ) (xs ys : List Climb) → AreClimbs known s xs → AreClimbs known t ys → AreClimbs known (s + t) (map (λ c. join c (λ n. get_or ys n lost)) xs)
+climbs-joined known s t xs ys are more =
+    (length-map (λ (c : Climb). join c (λ n. get_or ys n lost)) xs ∙ are.0,
+    λ k within.
+    get_or-map (λ c. join c (λ n. get_or ys n lost)) xs k lost lost (omega (arith, are.0, within))
+    ∙ (ap (λ c. join c (λ n. get_or ys n lost)) (are.1 k within)
+    ∙ (join-same (length known) (climb known s k) (λ n. get_or ys n lost) (climb known t) (climb-within known s k within) more.1
+    ∙ sym (climb-more known s t k))))

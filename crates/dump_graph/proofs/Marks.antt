@@ -1,0 +1,33 @@
+-- The marks of roots.
+use Rattle.std.proofs.Common.{◌≡◌, ℕ, ◌<◌, ◌||◌, Bool, true, false, nat_eq, List, length, get_or, Option, None, Some, refl, ap, sym, ◌∙◌, arith, subst}
+use Rattle.std.specs.Prelude.{position}
+use Rattle.std.specs.List.{list_any}
+use Rattle.std.proofs.lemmas.List.Folds.{list_any_at}
+use Rattle.std.proofs.lemmas.Grind.{common_steps}
+use Rattle.hprof_records.specs.declared.sub_record.SubRecord.{SubRecord}
+use Rattle.dump_graph.specs.Firsts.{IsApart}
+use Rattle.dump_graph.specs.Graph.{roots_it}
+use Rattle.dump_graph.specs.Tables.{root_id}
+use Rattle.dump_graph.proofs.Nodes.{roots-none, roots-some}
+use Rattle.dump_graph.proofs.Positions.{equal_from, nat_eq-same, position-at, position-none}
+
+or-false : (a : Bool) → a ≡ (a || false)
+or-false true = refl
+or-false false = refl
+
+or-true : (a : Bool) → true ≡ (a || true)
+or-true true = refl
+or-true false = refl
+
+-- a part that tells no root marks none
+pub marks-none : (roots : List Bool) (ids : List ℕ) (p : SubRecord) (k : ℕ) → root_id p ≡ None → get_or roots k false ≡ (get_or roots k false || roots_it (get_or ids k 0) p)
+marks-none roots ids p k none = or-false (get_or roots k false) ∙ ap (λ b. get_or roots k false || b) (sym (roots-none (get_or ids k 0) p none))
+
+-- nor does one that tells a root which is no node
+pub marks-unknown : (roots : List Bool) (ids : List ℕ) (p : SubRecord) (r k : ℕ) → root_id p ≡ Some r → position (nat_eq r) ids ≡ None → k < length ids
+    → get_or roots k false ≡ (get_or roots k false || roots_it (get_or ids k 0) p)
+marks-unknown roots ids p r k some none within = or-false (get_or roots k false) ∙ ap (λ b. get_or roots k false || b) (sym (roots-some (get_or ids k 0) r p some ∙ by (nat_eq r (get_or ids k 0)) refl))
+  where
+    by : (b : Bool) → nat_eq r (get_or ids k 0) ≡ b → nat_eq r (get_or ids k 0) ≡ false
+    by false is = is
+    by true is = let found : list_any (nat_eq r) ids ≡ true = list_any_at (nat_eq r) ids k 0 within is in absurd (cc (found, position-none (nat_eq r) ids none))
