@@ -1,9 +1,9 @@
 -- The climbs from all classes, as lists.
-use Rattle.std.proofs.Common.{◌≡◌, ℕ, zero, suc, ◌+◌, ◌<◌, List, map, length, get_or, Option, None, Some, refl, ap, sym, ◌∙◌, arith, subst, length-map}
+use Rattle.std.proofs.Common.{◌≡◌, ℕ, zero, suc, ◌+◌, ◌<◌, List, map, length, get_or, Option, None, Some, refl, ap, sym, ◌∙◌, arith, subst}
 use Rattle.std.specs.Prelude.{All}
 use Rattle.std.specs.Option.{option_or}
 use Rattle.std.specs.List.{range_with_len}
-use Rattle.std.proofs.lemmas.List.{get_or-map, get_or_default}
+use Rattle.std.proofs.lemmas.List.{get_or-map, get_or_default, length-map}
 use Rattle.std.proofs.lemmas.List.FromFn.{get_or-map-range_with_len, length-range_with_len}
 use Rattle.dump_graph.specs.Classes.{Class}
 use Rattle.dump_graph.specs.Climbing.{AreClimbs, ComesWithin, climb, join, join_at, lost, standing, step, step_from}
@@ -27,11 +27,11 @@ join-standing one = by one.next
 -- those of no steps, and of one
 pub climbs-standing : (known : List Class) → AreClimbs known 0 (map standing (range_with_len 0 (length known)))
 climbs-standing known =
-    (length-map standing (range_with_len 0 (length known)) ∙ length-range_with_len 0 (length known),
+    (length-map (range_with_len 0 (length known)) standing ∙ length-range_with_len 0 (length known),
     λ k within. get_or-map-range_with_len standing 0 (length known) k k lost within (omega arith))
 
 pub climbs-steps : (known : List Class) → AreClimbs known 1 (map (step_from known) known)
-climbs-steps known = (length-map (step_from known) known, λ k within. sym (join-standing (step known k)))
+climbs-steps known = (length-map known (step_from known), λ k within. sym (join-standing (step known k)))
 
 join-same : (count : ℕ) (one : Climb) (more rest : ℕ → Climb) → ComesWithin count one.next → ((p : ℕ) → p < count → more p ≡ rest p) → join one more ≡ join one rest
 join-same count one more rest comes same = by one.next comes
@@ -51,7 +51,7 @@ climbs-within known s count xs are is k d within =
 -- climbs and others behind them
 pub climbs-joined : (known : List Class) (s t : ℕ) (xs ys : List Climb) → AreClimbs known s xs → AreClimbs known t ys → AreClimbs known (s + t) (map (λ c. join c (λ n. get_or ys n lost)) xs)
 climbs-joined known s t xs ys are more =
-    (length-map (λ (c : Climb). join c (λ n. get_or ys n lost)) xs ∙ are.0,
+    (length-map xs (λ (c : Climb). join c (λ n. get_or ys n lost)) ∙ are.0,
     λ k within.
     get_or-map (λ c. join c (λ n. get_or ys n lost)) xs k lost lost (omega (arith, are.0, within))
     ∙ (ap (λ c. join c (λ n. get_or ys n lost)) (are.1 k within)

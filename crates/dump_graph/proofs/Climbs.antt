@@ -1,8 +1,8 @@
 -- Climbs: put together, and what they gather.
-use Rattle.std.proofs.Common.{◌≡◌, ℕ, zero, suc, ◌+◌, ◌<◌, ◌≤◌, Bool, true, false, cond, nat_eq, List, [], ◌∷◌, ◌++◌, map, length, get_or, Option, None, Some, option_map, refl, ap, sym, ◌∙◌, arith, subst, append_assoc, zero-add, suc-add, length-map}
+use Rattle.std.proofs.Common.{◌≡◌, ℕ, zero, suc, ◌+◌, ◌<◌, ◌≤◌, Bool, true, false, cond, nat_eq, List, [], ◌∷◌, ◌++◌, map, length, get_or, Option, None, Some, option_map, refl, ap, sym, ◌∙◌, arith, subst, append_assoc, zero-add, suc-add}
 use Rattle.std.specs.Prelude.{position, option_and_then}
 use Rattle.std.specs.Option.{option_or}
-use Rattle.std.proofs.lemmas.List.{append-nil, get_or-map}
+use Rattle.std.proofs.lemmas.List.{append-nil, get_or-map, length-map}
 use Rattle.std.proofs.lemmas.Grind.{common_steps}
 use Rattle.dump_graph.specs.Classes.{Class, first_class, codes_within}
 use Rattle.dump_graph.specs.Climbing.{AreClimbs, ComesWithin, climb, codes_above, gathered, if_fielded, join, join_at, lost, own_codes, standing, step, step_from, step_to}
@@ -58,7 +58,7 @@ step-from-within known c = by (nat_eq c.parent 0)
 
     by : (b : Bool) → ComesWithin (length known) (cond b (record { fielded = None; next = Top }) (step_to known found)).next
     by true = tt
-    by false = step-to-within known found (λ p is. omega (arith, (position-at (nat_eq c.parent) (map (λ x. x.id) known) p 0 is).0, length-map (λ (x : Class). x.id) known))
+    by false = step-to-within known found (λ p is. omega (arith, (position-at (nat_eq c.parent) (map (λ x. x.id) known) p 0 is).0, length-map known (λ (x : Class). x.id)))
 
 pub step-within : (known : List Class) (n : ℕ) → n < length known → ComesWithin (length known) (step known n).next
 step-within [] n within = absurd (omega (arith, within))

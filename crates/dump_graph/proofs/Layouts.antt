@@ -1,8 +1,8 @@
 -- The layout of a class, by the climb from it.
-use Rattle.std.proofs.Common.{◌≡◌, ℕ, zero, suc, ◌+◌, ◌<◌, ◌≤◌, Bool, true, false, cond, nat_eq, List, [], ◌∷◌, ◌++◌, map, length, get_or, Option, None, Some, option_map, refl, ap, sym, ◌∙◌, arith, subst, length-map}
+use Rattle.std.proofs.Common.{◌≡◌, ℕ, zero, suc, ◌+◌, ◌<◌, ◌≤◌, Bool, true, false, cond, nat_eq, List, [], ◌∷◌, ◌++◌, map, length, get_or, Option, None, Some, option_map, refl, ap, sym, ◌∙◌, arith, subst}
 use Rattle.std.specs.Prelude.{position, option_and_then}
 use Rattle.std.specs.Option.{option_or}
-use Rattle.std.proofs.lemmas.List.{append-nil, get_or-map}
+use Rattle.std.proofs.lemmas.List.{append-nil, get_or-map, length-map}
 use Rattle.dump_graph.specs.Classes.{Class, first_class, codes_within}
 use Rattle.dump_graph.specs.ClassTable.{if_top, laid_out}
 use Rattle.dump_graph.specs.Climbing.{ComesWithin, climb, codes_above, gathered, if_fielded, join_at, lost, own_codes, standing, step, step_from, step_to}
@@ -137,7 +137,7 @@ module _ (known : List Class) (s : ℕ) (before : (id : ℕ) → codes_within kn
   codes-next id =
       ap (option_and_then codes_from) (find-by-position (λ (c : Class). c.id) id no_class known)
       ∙ from-place id (position (nat_eq id) (map (λ c. c.id) known))
-      (λ n is. omega (arith, (position-at (nat_eq id) (map (λ c. c.id) known) n 0 is).0, length-map (λ (x : Class). x.id) known))
+      (λ n is. omega (arith, (position-at (nat_eq id) (map (λ c. c.id) known) n 0 is).0, length-map known (λ (x : Class). x.id)))
 
 codes-none : (known : List Class) (o : Option ℕ) → None ≡ option_map (gathered known 0) (option_and_then (λ n. if_top (climb known 0 n).next n) o)
 codes-none known None = refl

@@ -3,6 +3,8 @@ pub mod Firsts
 pub mod Numberings
 pub mod Climbs
 pub mod ClimbTables
+pub mod Values
 pub mod Layouts
+pub mod ReadAll
 pub mod Nodes
 pub mod Marks

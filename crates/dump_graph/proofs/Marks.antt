@@ -1,7 +1,7 @@
 -- The marks of roots.
-use Rattle.std.proofs.Common.{◌≡◌, ℕ, ◌<◌, ◌||◌, Bool, true, false, nat_eq, List, length, get_or, Option, None, Some, refl, ap, sym, ◌∙◌, arith, subst}
+use Rattle.std.proofs.Common.{◌≡◌, ◌≢◌, ℕ, ◌<◌, ◌||◌, Bool, true, false, nat_eq, List, length, get_or, Option, None, Some, refl, ap, sym, ◌∙◌, arith, subst}
 use Rattle.std.specs.Prelude.{position}
-use Rattle.std.specs.List.{list_any}
+use Rattle.std.specs.List.{list_any, slice_set}
 use Rattle.std.proofs.lemmas.List.Folds.{list_any_at}
 use Rattle.std.proofs.lemmas.Grind.{common_steps}
 use Rattle.hprof_records.specs.declared.sub_record.SubRecord.{SubRecord}
@@ -31,3 +31,23 @@ marks-unknown roots ids p r k some none within = or-false (get_or roots k false)
     by : (b : Bool) → nat_eq r (get_or ids k 0) ≡ b → nat_eq r (get_or ids k 0) ≡ false
     by false is = is
     by true is = let found : list_any (nat_eq r) ids ≡ true = list_any_at (nat_eq r) ids k 0 within is in absurd (cc (found, position-none (nat_eq r) ids none))
+
+-- one that tells a root marks its node alone
+pub marks-known : (roots : List Bool) (ids : List ℕ) (p : SubRecord) (r number k : ℕ) → root_id p ≡ Some r → position (nat_eq r) ids ≡ Some number → IsApart ids → k < length ids
+    → length roots ≡ length ids → get_or (slice_set roots number true) k false ≡ (get_or roots k false || roots_it (get_or ids k 0) p)
+marks-known roots ids p r number k some found apart within same =
+    by (nat_eq r (get_or ids k 0)) refl ∙ ap (λ b. get_or roots k false || b) (sym (roots-some (get_or ids k 0) r p some))
+  where
+    at : (number < length ids) × (nat_eq r (get_or ids number 0) ≡ true)
+    at = position-at (nat_eq r) ids number 0 found
+
+    by : (b : Bool) → nat_eq r (get_or ids k 0) ≡ b → get_or (slice_set roots number true) k false ≡ (get_or roots k false || nat_eq r (get_or ids k 0))
+    by true is =
+        let here : position (nat_eq r) ids ≡ Some k = subst (λ z. position (nat_eq z) ids ≡ Some k) (sym (equal_from r (get_or ids k 0) is)) (apart k within) in
+        let there : number ≡ k = cc (here, found) in
+        let marked : get_or (slice_set roots number true) k false ≡ true = grind (arith, common_steps, there, same, within) in
+        marked ∙ (or-true (get_or roots k false) ∙ ap (λ b. get_or roots k false || b) (sym is))
+    by false is =
+        let other : number ≢ k = λ same. absurd (cc (is, subst (λ z. nat_eq r (get_or ids z 0) ≡ true) same at.1)) in
+        let kept : get_or (slice_set roots number true) k false ≡ get_or roots k false = grind (arith, common_steps, other) in
+        kept ∙ (or-false (get_or roots k false) ∙ ap (λ b. get_or roots k false || b) (sym is))

@@ -1,8 +1,8 @@
 -- The nodes and roots of a dump, part by part, and the graph that is made of the tables.
-use Rattle.std.proofs.Common.{◌≡◌, ℕ, zero, suc, ◌+◌, ◌<◌, ◌≤◌, ◌||◌, ◌&&◌, Bool, true, false, cond, not, nat_eq, List, [], ◌∷◌, ◌++◌, map, length, get_or, take, Option, None, Some, refl, ap, sym, ◌∙◌, arith, subst, length-map}
+use Rattle.std.proofs.Common.{◌≡◌, ℕ, zero, suc, ◌+◌, ◌<◌, ◌≤◌, ◌||◌, ◌&&◌, Bool, true, false, cond, not, nat_eq, List, [], ◌∷◌, ◌++◌, map, length, get_or, take, Option, None, Some, refl, ap, sym, ◌∙◌, arith, subst}
 use Rattle.std.specs.Prelude.{position, filter, All}
 use Rattle.std.specs.List.{cons_option, filter_map, list_any, zip}
-use Rattle.std.proofs.lemmas.List.{take_more, append-nil, get_or-map}
+use Rattle.std.proofs.lemmas.List.{take_more, append-nil, get_or-map, length-map}
 use Rattle.std.proofs.lemmas.List.Elements.{All-cons, filter-append, filter_map-append}
 use Rattle.hprof_records.specs.declared.sub_record.SubRecord.{SubRecord}
 use Rattle.hprof_records.specs.declared.sub_record.SubRecord.TheVariants.{Root, HeapInfo, ClassDump, Instance, ObjectArray, PrimitiveArray, NoData}
@@ -125,6 +125,6 @@ All-map f P (x ∷ xs) each = All-cons P (f x) (map f xs) (each x) (All-map f P 
 
 pub graph-within : (ps : List SubRecord) → LeadsWithin (graph ps)
 graph-within ps =
-    let same : length (node_ids ps) ≡ length (graph ps) = length-map id_of (nodes ps) ∙ sym (length-map (node_of ps) (nodes ps)) in
+    let same : length (node_ids ps) ≡ length (graph ps) = length-map (nodes ps) id_of ∙ sym (length-map (nodes ps) (node_of ps)) in
     All-map (node_of ps) (λ x. All (λ t. t < length (graph ps)) x.targets) (nodes ps)
     (λ p. subst (λ n. All (λ t. t < n) (node_of ps p).targets) same (targets-within (node_ids ps) (references (classes ps) p)))

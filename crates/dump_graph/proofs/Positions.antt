@@ -92,3 +92,12 @@ find-by-position {X} f id d (x ∷ xs) =
         → cond b (Some x) (find (λ y. nat_eq id (f y)) xs) ≡ option_map (λ n. get_or (x ∷ xs) n d) (cond b (Some 0) (option_map suc (position (nat_eq id) (map f xs))))
     by rest true = refl
     by rest false = rest ∙ later-one (position (nat_eq id) (map f xs))
+
+-- the place of an element by its identifier
+pub position-by : {X : Type 0} (f : X → ℕ) (id : ℕ) (xs : List X) → position (λ x. nat_eq (f x) id) xs ≡ position (nat_eq id) (map f xs)
+position-by f id [] = refl
+position-by f id (x ∷ xs) =
+    position-cons (λ y. nat_eq (f y) id) x xs
+    ∙ (ap (λ b. cond b (Some 0) (option_map suc (position (λ y. nat_eq (f y) id) xs))) (nat_eq-sym (f x) id)
+    ∙ (ap (λ o. cond (nat_eq id (f x)) (Some 0) (option_map suc o)) (position-by f id xs)
+    ∙ sym (position-cons (nat_eq id) (f x) (map f xs))))

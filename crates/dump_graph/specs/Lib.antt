@@ -6,3 +6,4 @@ pub mod Numbering
 pub mod Climbing
 pub mod Tables
 pub mod ClassTable
+pub mod Reading

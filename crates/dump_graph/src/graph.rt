@@ -1,5 +1,5 @@
 //! The graph: nodes, roots and edges.
-ghost use Rattle.std.specs.Prelude.{◌≡◌, ℕ, ◌<◌, ◌||◌, false, map, length, get_or, IfOk, zip};
+ghost use Rattle.std.specs.Prelude.{◌≡◌, ℕ, ◌<◌, ◌||◌, ◌++◌, false, map, length, get_or, nat_eq, position, option_to_list, IfOk, OnOk, zip};
 ghost use Rattle.std.specs.List.{list_any};
 ghost use Rattle.dump_graph.specs.Firsts.{IsApart};
 ghost use Rattle.dump_graph.specs.Graph.{id_of, stands_for_node, nodes, node_ids, roots_it};
@@ -105,15 +105,23 @@ fn mark_roots(
     Ok(roots)
 }
 
+/// Puts the number of an identifier behind others, if a node has it.
+fn add_number(numbers: &Numbers, id: u32, found: &mut Vec<usize>) -> Result<(), AllocError>
+    ensures { OnOk result (found.new.items ≡ found.old.items ++ option_to_list (position (nat_eq id) numbers.now)) }
+{
+    if let Some(number) = numbers.number_of(id) {
+        found.push(number)?;
+    }
+    Ok(())
+}
+
 /// The numbers of the nodes among identifiers.
 fn numbers_of(alloc: Global, numbers: &Numbers, ids: &[u32]) -> Result<Vec<usize>, AllocError>
     ensures { IfOk result (λ r. r.items ≡ numbers_of numbers.now ids.now) }
 {
     let mut found = Vec::new(alloc);
     for id in ids {
-        if let Some(number) = numbers.number_of(*id) {
-            found.push(number)?;
-        }
+        add_number(numbers, *id, &mut found)?;
     }
     Ok(found)
 }
@@ -153,6 +161,13 @@ fn nodes_of(
         nodes.push(node_of(alloc, classes, numbers, roots[i], firsts[i])?)?;
     }
     Ok(nodes)
+}
+
+/// The first place of a node with an identifier.
+fn place_of(nodes: &[GraphNode], id: u32) -> Option<usize>
+    ensures { result ≡ position (λ x. nat_eq x.id id) nodes.now }
+{
+    nodes.iter().position(|node| node.id() == id)
 }
 
 /// The graph of a dump: its nodes in order, each with its edges.
@@ -199,6 +214,6 @@ impl DumpGraph {
     pub fn number_of(&self, id: u32) -> Option<usize>
         ensures { result ≡ number_of self.now id }
     {
-        self.nodes.iter().position(|node| node.id() == id)
+        place_of(&self.nodes, id)
     }
 }

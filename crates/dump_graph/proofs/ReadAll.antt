@@ -1,0 +1,98 @@
+-- The reading of an instance's values, class by class upwards.
+use Rattle.std.proofs.Common.{◌≡◌, ℕ, zero, suc, ◌+◌, ◌-◌, ◌<◌, ◌≤◌, Bool, true, false, nat_eq, List, [], ◌∷◌, ◌++◌, drop, length, Option, None, Some, refl, ap, sym, ◌∙◌, arith, subst, append_assoc, length-drop}
+use Rattle.std.specs.Prelude.{sum_by}
+use Rattle.std.proofs.lemmas.List.{append-nil}
+use Rattle.std.proofs.lemmas.List.Sums.{sum_by-append}
+use Rattle.std.proofs.lemmas.Grind.{common_steps}
+use Rattle.hprof_records.specs.Types.{value_bytes}
+use Rattle.dump_graph.specs.Classes.{Class}
+use Rattle.dump_graph.specs.Climbing.{climb, gathered, join, join_at, own_codes, step}
+use Rattle.dump_graph.specs.References.{references_in}
+use Rattle.dump_graph.specs.Reading.{HasRead, IsLeft}
+use Rattle.dump_graph.specs.declared.climb.Climb.{Climb}
+use Rattle.dump_graph.specs.declared.climb.Up.{Up}
+use Rattle.dump_graph.specs.declared.climb.Up.TheVariants.{Top, Above, Lost}
+use Rattle.dump_graph.proofs.Climbs.{climb-more}
+use Rattle.dump_graph.proofs.Layouts.{GathersBy, gathers}
+use Rattle.dump_graph.proofs.Values.{drop-plus, references-append}
+
+-- more steps than to the top lead no further
+top-stays : (one : Climb) (more : ℕ → Climb) → one.next ≡ Top → join one more ≡ one
+top-stays one more top = by one.next refl
+  where
+    by : (u : Up) → one.next ≡ u → join_at one.fielded u more ≡ record { fielded = one.fielded; next = u }
+    by Top is = refl
+    by (Above p) is = absurd (cc (top, is))
+    by Lost is = refl
+
+pub climb-stays : (known : List Class) (s t n : ℕ) → (climb known s n).next ≡ Top → s ≤ t → climb known t n ≡ climb known s n
+climb-stays known s t n top below =
+    let split : t ≡ s + (t - s) = omega (arith, below) in
+    ap (λ k. climb known k n) split ∙ (climb-more known s (t - s) n ∙ top-stays (climb known s n) (climb known (t - s)) top)
+
+-- nothing was read
+pub reading-begins : (known : List Class) (dumps n : ℕ) (bytes found : List ℕ) → n < length known → (climb known dumps n).next ≡ Top
+    → (left : List ℕ) × (IsLeft known (Some n) dumps left × HasRead (gathered known dumps n) left bytes found bytes found)
+reading-begins known dumps n bytes found within top =
+    (gathered known dumps n, ((dumps, (omega arith, within, top, refl)), record { done = []; split = refl; within = omega arith; rest_is = refl; found_is = sym (append-nil found) }))
+
+-- the fields of a class more were read
+module _ (all own left bytes found rest found' after found'' : List ℕ) (read : HasRead all (own ++ left) bytes found rest found') where
+  pub reads-own : sum_by value_bytes own ≤ length rest → after ≡ drop (sum_by value_bytes own) rest → found'' ≡ found' ++ references_in own rest → HasRead all left bytes found after found''
+  reads-own fits after_is more =
+      let sums = sum_by-append value_bytes read.done own in
+      let long : length rest ≡ length bytes - sum_by value_bytes read.done = ap length read.rest_is ∙ length-drop (sum_by value_bytes read.done) bytes in
+      record {
+        done = read.done ++ own;
+        split = read.split ∙ sym (append_assoc read.done own left);
+        within = omega (arith, sums, long, fits, read.within);
+        rest_is = after_is ∙ (ap (drop (sum_by value_bytes own)) read.rest_is ∙ (drop-plus (sum_by value_bytes read.done) (sum_by value_bytes own) bytes ∙ ap (λ k. drop k bytes) (sym sums)));
+        found_is =
+            more ∙ (ap (λ l. l ++ references_in own rest) read.found_is ∙ (append_assoc found (references_in read.done bytes) (references_in own rest)
+            ∙ ap (λ l. found ++ l) (ap (λ r. references_in read.done bytes ++ references_in own r) read.rest_is ∙ sym (references-append read.done own bytes))));
+      }
+
+  -- there are too few bytes for them
+  pub reads-short : length rest < sum_by value_bytes own → length bytes < sum_by value_bytes all
+  reads-short short =
+      let sums = sum_by-append value_bytes read.done (own ++ left) in
+      let sums' = sum_by-append value_bytes own left in
+      let whole : sum_by value_bytes all ≡ sum_by value_bytes (read.done ++ (own ++ left)) = ap (sum_by value_bytes) read.split in
+      let long : length rest ≡ length bytes - sum_by value_bytes read.done = ap length read.rest_is ∙ length-drop (sum_by value_bytes read.done) bytes in
+      omega (arith, sums, sums', whole, long, short)
+
+-- what is left from a class on are its own codes, and what is left from the next that has fields on
+pub left-next : (known : List Class) (n fuel dumps : ℕ) (left : List ℕ) → IsLeft known (Some n) fuel left → fuel ≤ dumps
+    → (left' : List ℕ) × ((left ≡ own_codes known n ++ left') × IsLeft known (climb known dumps n).fielded (fuel - 1) left')
+left-next known n fuel dumps left (s, (below, within, top, is)) few =
+    by (climb known s n).fielded (gathers known s n within top) (ap (λ (c : Climb). c.fielded) (climb-stays known s dumps n top (omega (arith, below, few))))
+  where
+    by : (o : Option ℕ) → GathersBy known s n o → (climb known dumps n).fielded ≡ o
+        → (left' : List ℕ) × ((left ≡ own_codes known n ++ left') × IsLeft known (climb known dumps n).fielded (fuel - 1) left')
+    by None own first = ([], (is ∙ (own ∙ sym (append-nil (own_codes known n))), subst (λ o. IsLeft known o (fuel - 1) []) (sym first) refl))
+    by (Some d) (t, (less, inside, up, more)) first =
+        (gathered known t d, (is ∙ more, subst (λ o. IsLeft known o (fuel - 1) (gathered known t d)) (sym first) (t, (omega (arith, less, below), inside, up, refl))))
+
+-- nothing is left after the last step
+pub left-none : (known : List Class) (o : Option ℕ) (left : List ℕ) → IsLeft known o 0 left → left ≡ []
+left-none known None left is = is
+left-none known (Some n) left (s, (below, within, top, is)) =
+    let none : s ≡ 0 = omega (arith, below) in
+    absurd (by (subst (λ k. (climb known k n).next ≡ Top) none top))
+  where
+    by : Above n ≡ Top → ⊥
+    by e = cc
+
+-- all codes were read
+module _ (all bytes found rest found' : List ℕ) (read : HasRead all [] bytes found rest found') where
+  all-done : all ≡ read.done
+  all-done = read.split ∙ append-nil read.done
+
+  pub reads-all : found' ≡ found ++ references_in all bytes
+  reads-all = read.found_is ∙ ap (λ l. found ++ references_in l bytes) (sym all-done)
+
+  pub fits-all : nat_eq (sum_by value_bytes all) (length bytes) ≡ nat_eq (length rest) 0
+  fits-all =
+      let same : sum_by value_bytes all ≡ sum_by value_bytes read.done = ap (sum_by value_bytes) all-done in
+      let long : length rest ≡ length bytes - sum_by value_bytes read.done = ap length read.rest_is ∙ length-drop (sum_by value_bytes read.done) bytes in
+      grind (arith, common_steps, same, long, read.within)
