@@ -1,12 +1,13 @@
 -- The climbs from all classes, as lists.
-use Rattle.std.proofs.Common.{◌≡◌, ℕ, zero, suc, ◌+◌, ◌<◌, List, map, length, get_or, Option, None, Some, refl, ap, sym, ◌∙◌, arith, subst}
+use Rattle.std.proofs.Common.{◌≡◌, ℕ, zero, suc, ◌+◌, ◌<◌, List, map, length, get_or, Option, None, Some, refl, ap, sym, ◌∙◌, arith, subst, ◌*◌, ◌/◌, ◌%◌}
 use Rattle.std.specs.Prelude.{All}
+use Rattle.std.proofs.lemmas.Grind.{common_steps}
 use Rattle.std.specs.Option.{option_or}
 use Rattle.std.specs.List.{range_with_len}
 use Rattle.std.proofs.lemmas.List.{get_or-map, get_or_default, length-map}
 use Rattle.std.proofs.lemmas.List.FromFn.{get_or-map-range_with_len, length-range_with_len}
 use Rattle.dump_graph.specs.Classes.{Class}
-use Rattle.dump_graph.specs.Climbing.{AreClimbs, ComesWithin, climb, join, join_at, lost, standing, step, step_from}
+use Rattle.dump_graph.specs.Climbing.{AreClimbs, ComesWithin, HasClimbed, climb, join, join_at, join_with, lost, standing, step, step_from}
 use Rattle.dump_graph.specs.declared.climb.Climb.{Climb}
 use Rattle.dump_graph.specs.declared.climb.Up.{Up}
 use Rattle.dump_graph.specs.declared.climb.Up.TheVariants.{Top, Above, Lost}
@@ -49,11 +50,39 @@ climbs-within known s count xs are is k d within =
     subst (λ (one : Climb). ComesWithin count one.next) (sym same) (subst (λ n. ComesWithin n (climb known s k).next) (sym is) (climb-within known s k below))
 
 -- climbs and others behind them
-pub climbs-joined : (known : List Class) (s t : ℕ) (xs ys : List Climb) → AreClimbs known s xs → AreClimbs known t ys → AreClimbs known (s + t) (map (λ c. join c (λ n. get_or ys n lost)) xs)
+pub climbs-joined : (known : List Class) (s t : ℕ) (xs ys : List Climb) → AreClimbs known s xs → AreClimbs known t ys → AreClimbs known (s + t) (map (join_with ys) xs)
 climbs-joined known s t xs ys are more =
-    (length-map xs (λ (c : Climb). join c (λ n. get_or ys n lost)) ∙ are.0,
+    (length-map xs (join_with ys) ∙ are.0,
     λ k within.
-    get_or-map (λ c. join c (λ n. get_or ys n lost)) xs k lost lost (omega (arith, are.0, within))
-    ∙ (ap (λ c. join c (λ n. get_or ys n lost)) (are.1 k within)
+    get_or-map (join_with ys) xs k lost lost (omega (arith, are.0, within))
+    ∙ (ap (join_with ys) (are.1 k within)
     ∙ (join-same (length known) (climb known s k) (λ n. get_or ys n lost) (climb known t) (climb-within known s k within) more.1
     ∙ sym (climb-more known s t k))))
+
+-- how climbing begins, goes on and ends
+pub climbs-begin : (known : List Class) (steps : ℕ) (climbs power : List Climb) → climbs ≡ map standing (range_with_len 0 (length known)) → power ≡ map (step_from known) known → HasClimbed known steps steps climbs power
+climbs-begin known steps climbs power none one =
+    (0, 1, (subst (AreClimbs known 0) (sym none) (climbs-standing known), subst (AreClimbs known 1) (sym one) (climbs-steps known), omega arith))
+
+odd-steps : (done left half each steps : ℕ) → left ≡ half * 2 + 1 → done + left * each ≡ steps → (done + each) + half * (each + each) ≡ steps
+odd-steps done left half each steps is had = grind (arith, common_steps, is, had)
+
+even-steps : (done left half each steps : ℕ) → left ≡ half * 2 → done + left * each ≡ steps → done + half * (each + each) ≡ steps
+even-steps done left half each steps is had = grind (arith, common_steps, is, had)
+
+pub climbs-odd : (known : List Class) (steps left half : ℕ) (climbs power climbs' power' : List Climb) → HasClimbed known steps left climbs power → left ≡ half * 2 + 1
+    → climbs' ≡ map (join_with power) climbs → power' ≡ map (join_with power) power → HasClimbed known steps half climbs' power'
+climbs-odd known steps left half climbs power climbs' power' (done, each, (a, b, had)) odd is also =
+    (done + each, each + each, (subst (AreClimbs known (done + each)) (sym is) (climbs-joined known done each climbs power a b),
+    subst (AreClimbs known (each + each)) (sym also) (climbs-joined known each each power power b b), odd-steps done left half each steps odd had))
+
+pub climbs-even : (known : List Class) (steps left half : ℕ) (climbs power power' : List Climb) → HasClimbed known steps left climbs power → left ≡ half * 2
+    → power' ≡ map (join_with power) power → HasClimbed known steps half climbs power'
+climbs-even known steps left half climbs power power' (done, each, (a, b, had)) even also =
+    (done, each + each, (a, subst (AreClimbs known (each + each)) (sym also) (climbs-joined known each each power power b b), even-steps done left half each steps even had))
+
+none-left : (done left each steps : ℕ) → left ≡ 0 → done + left * each ≡ steps → done ≡ steps
+none-left done left each steps none is = grind (arith, common_steps, none, is)
+
+pub climbs-end : (known : List Class) (steps left : ℕ) (climbs power : List Climb) → HasClimbed known steps left climbs power → left ≡ 0 → AreClimbs known steps climbs
+climbs-end known steps left climbs power (done, each, (a, b, had)) none = subst (λ s. AreClimbs known s climbs) (none-left done left each steps none had) a

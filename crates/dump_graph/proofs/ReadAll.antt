@@ -31,10 +31,10 @@ climb-stays known s t n top below =
     ap (λ k. climb known k n) split ∙ (climb-more known s (t - s) n ∙ top-stays (climb known s n) (climb known (t - s)) top)
 
 -- nothing was read
-pub reading-begins : (known : List Class) (dumps n : ℕ) (bytes found : List ℕ) → n < length known → (climb known dumps n).next ≡ Top
-    → (left : List ℕ) × (IsLeft known (Some n) dumps left × HasRead (gathered known dumps n) left bytes found bytes found)
-reading-begins known dumps n bytes found within top =
-    (gathered known dumps n, ((dumps, (omega arith, within, top, refl)), record { done = []; split = refl; within = omega arith; rest_is = refl; found_is = sym (append-nil found) }))
+pub reading-begins : (known : List Class) (dumps fuel n : ℕ) (bytes found : List ℕ) → dumps ≤ fuel → n < length known → (climb known dumps n).next ≡ Top
+    → (left : List ℕ) × (IsLeft known (Some n) fuel left × HasRead (gathered known dumps n) left bytes found bytes found)
+reading-begins known dumps fuel n bytes found few within top =
+    (gathered known dumps n, ((dumps, (few, within, top, refl)), record { done = []; split = refl; within = omega arith; rest_is = refl; found_is = sym (append-nil found) }))
 
 -- the fields of a class more were read
 module _ (all own left bytes found rest found' after found'' : List ℕ) (read : HasRead all (own ++ left) bytes found rest found') where
@@ -96,3 +96,24 @@ module _ (all bytes found rest found' : List ℕ) (read : HasRead all [] bytes f
       let same : sum_by value_bytes all ≡ sum_by value_bytes read.done = ap (sum_by value_bytes) all-done in
       let long : length rest ≡ length bytes - sum_by value_bytes read.done = ap length read.rest_is ∙ length-drop (sum_by value_bytes read.done) bytes in
       grind (arith, common_steps, same, long, read.within)
+
+-- a class's fields are read, and those of the classes above it are left
+pub reads-on : (known : List Class) (dumps fuel n : ℕ) (at : Option ℕ) (all codes bytes rest found found' found'' after : List ℕ) (more : Option ℕ)
+    → (left : List ℕ) × (IsLeft known at fuel left × HasRead all left bytes found rest found') → at ≡ Some n → fuel ≤ dumps → codes ≡ own_codes known n → more ≡ (climb known dumps n).fielded
+    → sum_by value_bytes codes ≤ length rest → after ≡ drop (sum_by value_bytes codes) rest → found'' ≡ found' ++ references_in codes rest
+    → (left : List ℕ) × (IsLeft known more (fuel - 1) left × HasRead all left bytes found after found'')
+reads-on known dumps fuel n at all codes bytes rest found found' found'' after more (left, (is, read)) at_n few own next fits after_is also =
+    let here : IsLeft known (Some n) fuel left = subst (λ o. IsLeft known o fuel left) at_n is in
+    let onward = left-next known n fuel dumps left here few in
+    let split : HasRead all (codes ++ onward.0) bytes found rest found' = subst (λ l. HasRead all l bytes found rest found') (onward.1.0 ∙ ap (λ l. l ++ onward.0) (sym own)) read in
+    (onward.0, (subst (λ o. IsLeft known o (fuel - 1) onward.0) (sym next) onward.1.1, reads-own all codes onward.0 bytes found rest found' after found'' split fits after_is also))
+
+pub stops-short : (known : List Class) (dumps fuel n : ℕ) (at : Option ℕ) (all codes bytes rest found found' : List ℕ)
+    → (left : List ℕ) × (IsLeft known at fuel left × HasRead all left bytes found rest found') → at ≡ Some n → fuel ≤ dumps → codes ≡ own_codes known n
+    → length rest < sum_by value_bytes codes → false ≡ nat_eq (sum_by value_bytes all) (length bytes)
+stops-short known dumps fuel n at all codes bytes rest found found' (left, (is, read)) at_n few own short =
+    let here : IsLeft known (Some n) fuel left = subst (λ o. IsLeft known o fuel left) at_n is in
+    let onward = left-next known n fuel dumps left here few in
+    let split : HasRead all (codes ++ onward.0) bytes found rest found' = subst (λ l. HasRead all l bytes found rest found') (onward.1.0 ∙ ap (λ l. l ++ onward.0) (sym own)) read in
+    let more = reads-short all codes onward.0 bytes found rest found' [] [] split short in
+    grind (arith, common_steps, more)

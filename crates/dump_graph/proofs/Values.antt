@@ -1,6 +1,8 @@
 -- The references among values, field by field.
-use Rattle.std.proofs.Common.{◌≡◌, ℕ, zero, suc, ◌+◌, ◌-◌, ◌<◌, ◌≤◌, Bool, true, false, cond, nat_eq, List, [], ◌∷◌, ◌++◌, length, get_or, take, drop, Option, None, Some, refl, ap, sym, ◌∙◌, arith, subst, append_assoc, zero-add, suc-add}
-use Rattle.std.specs.Prelude.{sum_by, option_to_list}
+use Rattle.std.proofs.Common.{◌≡◌, ℕ, zero, suc, ◌+◌, ◌-◌, ◌<◌, ◌≤◌, Bool, true, false, cond, nat_eq, List, [], ◌∷◌, ◌++◌, length, get_or, take, drop, Option, None, Some, refl, ap, sym, ◌∙◌, arith, subst, append_assoc, length-drop, zero-add, suc-add}
+use Rattle.std.specs.Prelude.{sum_by, option_to_list, position}
+use Rattle.std.proofs.lemmas.List.Elements.{filter_map-append}
+use Rattle.dump_graph.specs.Tables.{numbers_of}
 use Rattle.std.specs.List.{cons_option, filter_map}
 use Rattle.std.proofs.lemmas.List.{take_more, append-nil}
 use Rattle.std.proofs.lemmas.List.Sums.{sum_by-append, sum_by-cons, sum_by-take-le}
@@ -50,3 +52,14 @@ references-more codes bytes i within =
 -- the sizes of some values are at most those of all
 pub sizes-within : (codes : List ℕ) (i : ℕ) → i < length codes → sum_by value_bytes (take i codes) + value_bytes (get_or codes i 0) ≤ sum_by value_bytes codes
 sizes-within codes i within = omega (arith, sizes-more codes i within, sum_by-take-le value_bytes codes (i + 1))
+
+-- all bytes from a place on
+pub cut-all : (xs : List ℕ) (n : ℕ) → take (length xs - n) (drop n xs) ≡ drop n xs
+cut-all xs n = ap (λ k. take k (drop n xs)) (sym (length-drop n xs)) ∙ grind (arith, common_steps)
+
+-- one identifier more
+pub numbers-more : (ids refers : List ℕ) (i : ℕ) → i < length refers → numbers_of ids (take (i + 1) refers) ≡ numbers_of ids (take i refers) ++ option_to_list (position (nat_eq (get_or refers i 0)) ids)
+numbers-more ids refers i within =
+    ap (numbers_of ids) (take_more refers i 0 within)
+    ∙ (filter_map-append (λ id. position (nat_eq id) ids) (take i refers) (get_or refers i 0 ∷ [])
+    ∙ ap (λ l. numbers_of ids (take i refers) ++ l) (to-list (position (nat_eq (get_or refers i 0)) ids)))

@@ -1,5 +1,5 @@
 -- Steps up from a class to its superclasses, where classes go by their numbers. These are words of the code.
-use Rattle.std.specs.Prelude.{◌≡◌, ℕ, zero, suc, ◌<◌, Bool, nat_eq, List, [], ◌∷◌, ◌++◌, map, length, get_or, position, Option, None, Some, if◌then◌else◌}
+use Rattle.std.specs.Prelude.{◌≡◌, ℕ, zero, suc, ◌+◌, ◌*◌, ◌<◌, Bool, nat_eq, List, [], ◌∷◌, ◌++◌, map, length, get_or, position, Option, None, Some, if◌then◌else◌}
 use Rattle.std.specs.Option.{option_or}
 use Rattle.dump_graph.specs.Classes.{Class}
 use Rattle.dump_graph.specs.declared.climb.Climb.{Climb}
@@ -45,6 +45,10 @@ join_at fielded Lost more = record { fielded = fielded; next = Lost }
 abbrev pub join : Climb → (ℕ → Climb) → Climb
 join one more = join_at one.fielded one.next more
 
+-- a climb and one of these behind it
+abbrev pub join_with : List Climb → Climb → Climb
+join_with more one = join one (λ n. get_or more n lost)
+
 -- so many steps up from a class
 abbrev pub climb : List Class → ℕ → ℕ → Climb
 climb known zero n = standing n
@@ -53,6 +57,11 @@ climb known (suc steps) n = join (step known n) (climb known steps)
 -- these are the climbs of so many steps from all classes
 abbrev pub AreClimbs : List Class → ℕ → List Climb → Type 0
 AreClimbs known steps climbs = (length climbs ≡ length known) × ((k : ℕ) → k < length known → get_or climbs k lost ≡ climb known steps k)
+
+-- some of so many steps are climbed: as many as the climbs have, and as often as is left those of the others
+abbrev pub HasClimbed : List Class → ℕ → ℕ → List Climb → List Climb → Type 0
+HasClimbed known steps left climbs power =
+    (done : ℕ) × (each : ℕ) × (AreClimbs known done climbs × AreClimbs known each power × (done + left * each ≡ steps))
 
 -- a climb comes to one of so many classes, or to none
 abbrev pub ComesWithin : ℕ → Up → Type 0

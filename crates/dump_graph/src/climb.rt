@@ -2,7 +2,7 @@
 //! many steps as twice those before one behind the other, so that neither long chains of classes nor cycles make it slow.
 ghost use Rattle.std.specs.Prelude.{◌≡◌, ℕ, ◌<◌, length, map, get_or, IfOk, All};
 ghost use Rattle.std.specs.List.{range_with_len};
-ghost use Rattle.dump_graph.specs.Climbing.{AreClimbs, ComesWithin, if_fielded, join, lost, own_codes, standing, step_from};
+ghost use Rattle.dump_graph.specs.Climbing.{AreClimbs, ComesWithin, if_fielded, join, join_with, lost, own_codes, standing, step_from};
 
 use crate::classes::KnownClass;
 use crate::numbers::Numbers;
@@ -44,7 +44,7 @@ fn joined(one: Climb, more: &[Climb]) -> Climb
 /// The climbs from all classes, each with one of these others behind it.
 fn all_joined(alloc: Global, climbs: &[Climb], more: &[Climb]) -> Result<Vec<Climb>, AllocError>
     requires { All (λ c. ComesWithin (length more.now) c.next) climbs.now }
-    ensures { IfOk result (λ longer. longer.items ≡ map (λ c. join c (λ n. get_or more.now n lost)) climbs.now) }
+    ensures { IfOk result (λ longer. longer.items ≡ map (join_with more.now) climbs.now) }
 {
     let mut longer = Vec::with_capacity(alloc, climbs.len())?;
     for one in climbs {
