@@ -7,13 +7,7 @@ use std::process::Abort;
 use std::test::Fail;
 
 /// What is told of an identifier in a dump with these parts.
-fn told(
-    rt: &impl Abort,
-    alloc: Global,
-    parts: SubList,
-    id: u32,
-    wanted: &str,
-) -> Result<(), Fail> {
+fn told(rt: &impl Abort, alloc: Global, parts: SubList, id: u32, wanted: &str) -> Result<(), Fail> {
     let made = dump(alloc, parts)?;
     let mut sink = MemorySink::new(alloc, 10_000, &[])?;
     let answer = find_path(alloc, &made, id, &mut sink);

@@ -4,7 +4,5 @@ pub enum Question {
     /// Its listing.
     Listing,
     /// A shortest path from a root to the object or class with this identifier.
-    Path {
-        id: u32,
-    },
+    Path { id: u32 },
 }

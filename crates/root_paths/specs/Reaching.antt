@@ -25,7 +25,8 @@ pub record Front : Type 0 where
 abbrev pub reach_edge : ℕ → Front → ℕ × ℕ → Front
 reach_edge level f e = record {
   reached = slice_set f.reached e.1 (reach_one level e.0 (get_or f.reached e.1 None));
-  next = if is_new (get_or f.reached e.1 None) then f.next ++ e.1 ∷ [] else f.next }
+  next = if is_new (get_or f.reached e.1 None) then f.next ++ e.1 ∷ [] else f.next;
+}
 
 abbrev pub reach_edges : ℕ → Front → List (ℕ × ℕ) → Front
 reach_edges level f es = fold (reach_edge level) f es
