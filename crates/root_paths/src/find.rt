@@ -1,8 +1,9 @@
 //! The answer: a path, or that there is none.
-ghost use Rattle.std.specs.Prelude.{◌≡◌, ◌≤◌, MatchResult};
+ghost use Rattle.std.specs.Prelude.{◌<◌, ◌≤◌, length, MatchResult};
 ghost use Rattle.ah_outside.specs.Outside.{Gained};
-ghost use Rattle.dump_graph.specs.Graph.{graph, parts};
-ghost use Rattle.root_paths.specs.Answer.{answer};
+ghost use Rattle.dump_graph.specs.Graph.{LeadsWithin, graph, parts};
+ghost use Rattle.root_paths.specs.Answer.{answer, node_answer};
+ghost use Rattle.root_paths.specs.Paths.{dist};
 ghost use Rattle.root_paths.specs.Putting.{Stopped};
 
 use crate::PathError;
@@ -20,7 +21,14 @@ fn tell_node<W: Sink>(
     nodes: &[GraphNode],
     number: usize,
     sink: &mut W,
-) -> Result<(), PathError> {
+) -> Result<(), PathError>
+    requires within { LeadsWithin nodes.now }
+    requires node { number < length nodes.now }
+    ensures told { let text = node_answer nodes.now number (dist nodes.now number) in MatchResult result
+        (λ _. Gained (W.gained sink.old) text (W.gained sink.new))
+        (λ e. Stopped e (W.gained sink.old) (W.fault_count sink.old) text (W.gained sink.new) (W.fault_count sink.new)) }
+    ensures never_falls { W.fault_count sink.old ≤ W.fault_count sink.new }
+{
     let reached = reach_all(alloc, nodes)?;
     match reached[number] {
         None => {

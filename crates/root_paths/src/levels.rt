@@ -1,4 +1,9 @@
 //! How far each node is from the roots, level by level.
+ghost use Rattle.std.specs.Prelude.{◌≡◌, ℕ, suc, ◌<◌, None, length, map, IfOk, OnOk, All, is_none};
+ghost use Rattle.dump_graph.specs.Graph.{LeadsWithin};
+ghost use Rattle.root_paths.specs.Paths.{numbers, ends};
+ghost use Rattle.root_paths.specs.Levels.{root_reach, led, Led, MadeLevel, IsBelow, AreReached};
+
 use dump_graph::GraphNode;
 use std::alloc::{AllocError, Global};
 
@@ -13,7 +18,10 @@ pub(crate) struct Reach {
 fn reach_roots(
     alloc: Global,
     nodes: &[GraphNode],
-) -> Result<(Vec<Option<Reach>>, Vec<usize>), AllocError> {
+) -> Result<(Vec<Option<Reach>>, Vec<usize>), AllocError>
+    ensures reached { IfOk result (λ r. r.0.items ≡ map (root_reach nodes.now) (numbers nodes.now)) }
+    ensures roots { IfOk result (λ r. r.1.items ≡ ends nodes.now 0) }
+{
     let mut reached = Vec::with_capacity(alloc, nodes.len())?;
     let mut roots = Vec::new(alloc);
     for i in 0..nodes.len() {
@@ -32,7 +40,10 @@ fn reach_roots(
 
 /// The reach of a node to which another one has an edge, which is at the level before this one: the first such node counts.
 /// Tells whether it was not reached before.
-fn reach_one(reach: &mut Option<Reach>, level: usize, before: usize) -> bool {
+fn reach_one(reach: &mut Option<Reach>, level: usize, before: usize) -> bool
+    ensures reached { reach.new ≡ led level before reach.old }
+    ensures new { result ≡ is_none reach.old }
+{
     match *reach {
         None => {
             *reach = Some(Reach { level, before });
@@ -54,7 +65,11 @@ fn reach_targets(
     before: usize,
     reached: &mut [Option<Reach>],
     next: &mut Vec<usize>,
-) -> Result<(), AllocError> {
+) -> Result<(), AllocError>
+    requires { All (λ t. t < length reached.old) targets.now }
+    ensures length { length reached.new ≡ length reached.old }
+    ensures led { OnOk result (Led level before targets.now reached.old next.old.items reached.new next.new.items) }
+{
     for target in targets {
         if reach_one(&mut reached[*target], level, before) {
             next.push(*target)?;
@@ -70,7 +85,14 @@ fn reach_level(
     level: usize,
     from: &[usize],
     reached: &mut [Option<Reach>],
-) -> Result<Vec<usize>, AllocError> {
+) -> Result<Vec<usize>, AllocError>
+    requires within { LeadsWithin nodes.now }
+    requires nodes { All (λ n. n < length nodes.now) from.now }
+    requires as_many { length reached.old ≡ length nodes.now }
+    requires below { IsBelow level reached.old }
+    ensures length { length reached.new ≡ length reached.old }
+    ensures made { IfOk result (λ next. MadeLevel nodes.now level from.now reached.old reached.new next.items) }
+{
     let mut next = Vec::new(alloc);
     for number in from {
         reach_targets(nodes[*number].targets(), level, *number, reached, &mut next)?;
@@ -82,7 +104,10 @@ fn reach_level(
 pub(crate) fn reach_all(
     alloc: Global,
     nodes: &[GraphNode],
-) -> Result<Vec<Option<Reach>>, AllocError> {
+) -> Result<Vec<Option<Reach>>, AllocError>
+    requires { LeadsWithin nodes.now }
+    ensures { IfOk result (λ reached. AreReached nodes.now reached.items) }
+{
     let (mut reached, mut from) = reach_roots(alloc, nodes)?;
     let mut level = 0;
     while !from.is_empty() {

@@ -1,7 +1,10 @@
 //! The lines of an answer.
-ghost use Rattle.std.specs.Prelude.{◌≡◌, ◌++◌, length, map};
+ghost use Rattle.std.specs.Prelude.{[], ◌∷◌, ◌++◌, Some, None, codes, decimal};
+ghost use Rattle.std.specs.List.{concat, flat_map};
+ghost use Rattle.hprof_list.specs.Listing.{id_text};
 ghost use Rattle.hprof_list.specs.Putting.{Puts};
-ghost use Rattle.root_paths.specs.Answer.{no_node_line};
+ghost use Rattle.root_paths.specs.Answer.{level_line, level_lines, no_node_line, node_line};
+ghost use Rattle.root_paths.specs.Levels.{AreNodes, AreReached, level_of};
 
 use crate::levels::Reach;
 use ah_outside::{Failed, Sink};
@@ -17,13 +20,18 @@ pub(crate) fn put_no_node<W: Sink>(sink: &mut W, id: u32) -> Result<(), Failed>
 }
 
 /// The line of a path's length.
-fn put_length<W: Sink>(sink: &mut W, length: usize) -> Result<(), Failed> {
+fn put_length<W: Sink>(sink: &mut W, length: usize) -> Result<(), Failed>
+    ensures { Puts W.gained W.fault_count sink.old (concat (codes "path " ∷ decimal length ∷ codes "\n" ∷ [])) sink.new result }
+{
     let mut text = Buffer::new();
     put_pieces(sink, &[b"path ", text.format(length).as_bytes(), b"\n"])
 }
 
 /// The lines of a path's nodes.
-fn put_way<W: Sink>(sink: &mut W, nodes: &[GraphNode], way: &[usize]) -> Result<(), Failed> {
+fn put_way<W: Sink>(sink: &mut W, nodes: &[GraphNode], way: &[usize]) -> Result<(), Failed>
+    requires { AreNodes nodes.now way.now }
+    ensures { Puts W.gained W.fault_count sink.old (flat_map (node_line nodes.now) way.now) sink.new result }
+{
     for number in way {
         put_pieces(sink, &[&id_of(nodes[*number].id()), b"\n"])?;
     }
@@ -31,7 +39,9 @@ fn put_way<W: Sink>(sink: &mut W, nodes: &[GraphNode], way: &[usize]) -> Result<
 }
 
 /// The line of a node and its level.
-fn put_level<W: Sink>(sink: &mut W, level: usize, id: u32) -> Result<(), Failed> {
+fn put_level<W: Sink>(sink: &mut W, level: usize, id: u32) -> Result<(), Failed>
+    ensures { Puts W.gained W.fault_count sink.old (concat (codes "level " ∷ decimal level ∷ codes " " ∷ id_text id ∷ codes "\n" ∷ [])) sink.new result }
+{
     let mut text = Buffer::new();
     put_pieces(
         sink,
@@ -51,7 +61,9 @@ fn put_reach<W: Sink>(
     limit: Option<usize>,
     id: u32,
     reach: Option<Reach>,
-) -> Result<(), Failed> {
+) -> Result<(), Failed>
+    ensures { Puts W.gained W.fault_count sink.old (level_line limit id (level_of reach)) sink.new result }
+{
     match (reach, limit) {
         (None, _) => Ok(()),
         (Some(reach), Some(limit)) if reach.level > limit => Ok(()),
@@ -66,7 +78,8 @@ fn put_levels<W: Sink>(
     reached: &[Option<Reach>],
     limit: Option<usize>,
 ) -> Result<(), Failed>
-    requires { length reached.now ≡ length nodes.now }
+    requires { AreReached nodes.now reached.now }
+    ensures { Puts W.gained W.fault_count sink.old (level_lines nodes.now limit) sink.new result }
 {
     for i in 0..nodes.len() {
         put_reach(sink, limit, nodes[i].id(), reached[i])?;
@@ -82,7 +95,9 @@ pub(crate) fn put_path<W: Sink>(
     length: usize,
     way: &[usize],
 ) -> Result<(), Failed>
-    requires { length reached.now ≡ length nodes.now }
+    requires reached { AreReached nodes.now reached.now }
+    requires nodes { AreNodes nodes.now way.now }
+    ensures { Puts W.gained W.fault_count sink.old (concat (codes "path " ∷ decimal length ∷ codes "\n" ∷ []) ++ (flat_map (node_line nodes.now) way.now ++ level_lines nodes.now (Some length))) sink.new result }
 {
     put_length(sink, length)?;
     put_way(sink, nodes, way)?;
@@ -95,7 +110,8 @@ pub(crate) fn put_no_path<W: Sink>(
     nodes: &[GraphNode],
     reached: &[Option<Reach>],
 ) -> Result<(), Failed>
-    requires { length reached.now ≡ length nodes.now }
+    requires { AreReached nodes.now reached.now }
+    ensures { Puts W.gained W.fault_count sink.old (codes "no path\n" ++ level_lines nodes.now None) sink.new result }
 {
     put_pieces(sink, &[b"no path\n"])?;
     put_levels(sink, nodes, reached, None)
