@@ -124,7 +124,7 @@ count-more : (p q : ℕ → Bool) → ((m : ℕ) → p m ≡ true → q m ≡ tr
 count-more p q weaker [] = omega arith
 count-more p q weaker (x ∷ xs) = by (count-more p q weaker xs) (p x) refl (q x) refl
   where
-    tested : (a : Bool) → p x ≡ a → (b : Bool) → q x ≡ b → cond (list_any (λ m. q m && not (p m)) (x ∷ xs)) 1 0 ≡ cond ((b && not a) || list_any (λ m. q m && not (p m)) xs) 1 0
+    tested : (a : Bool) → p x ≡ a → (b : Bool) → q x ≡ b → weight (list_any (λ m. q m && not (p m)) (x ∷ xs)) ≡ weight ((b && not a) || list_any (λ m. q m && not (p m)) xs)
     tested a pa b qb = ap (λ t. weight ((t && not (p x)) || list_any (λ m. q m && not (p m)) xs)) qb ∙ ap (λ t. weight ((b && not t) || list_any (λ m. q m && not (p m)) xs)) pa
 
     by : count_by p xs + cond (list_any (λ m. q m && not (p m)) xs) 1 0 ≤ count_by q xs → (a : Bool) → p x ≡ a → (b : Bool) → q x ≡ b
