@@ -138,9 +138,9 @@ keeps-counts s new t old table r mapped written = record {
   kept = λ u w. elim (cases_eq u t) [
     | inl here ↦ (
       ap (λ n. mapped_kept new n w) here ∙ ap (λ (o : Option Table). count_in (mapped_counts o) w) (replaced-here s new t old table r) ∙ ap (λ (c : Counts). count_in c w) mapped
-      ∙ sym (ap (λ n. mapped_kept s n w) here ∙ ap (λ (o : Option Table). count_in (mapped_counts o) w) r.was),
+          ∙ sym (ap (λ n. mapped_kept s n w) here ∙ ap (λ (o : Option Table). count_in (mapped_counts o) w) r.was),
       ap (λ n. written_kept new n w) here ∙ ap (λ (o : Option Table). count_in (written_counts o) w) (replaced-here s new t old table r) ∙ ap (λ (c : Counts). count_in c w) written
-      ∙ sym (ap (λ n. written_kept s n w) here ∙ ap (λ (o : Option Table). count_in (written_counts o) w) r.was),
+          ∙ sym (ap (λ n. written_kept s n w) here ∙ ap (λ (o : Option Table). count_in (written_counts o) w) r.was),
     )
     | inr off ↦ (
       ap (λ (o : Option Table). count_in (mapped_counts o) w) (replaced-other s new t old table r u off),

@@ -231,8 +231,8 @@ mapped_zero s m0 m1 new t p l store store0 adds ready own keeps also maps =
         now = page_at-shown new also.kept t p ∙ ap (option_map (page_of_entry new)) maps.entries.here ∙ ap (λ (bs : List ℕ). Some (page_as bs false maps.frame)) maps.bytes.here;
       };
       rest = changes-back (shown s) (shown m1) (shown new) t p same live reads
-      (ChangesPage-set m1 new t p (Some (fresh_entry maps.frame)) ready.kept also.kept maps.entries maps.beside
-      (λ u q d off is. maps.bytes.others d.frame (λ at. omega (arith, frame_held m1 ready.kept.counts u q d is, ap (frame_sharers m1) at, maps.free))));
+          (ChangesPage-set m1 new t p (Some (fresh_entry maps.frame)) ready.kept also.kept maps.entries maps.beside
+          (λ u q d off is. maps.bytes.others d.frame (λ at. omega (arith, frame_held m1 ready.kept.counts u q d is, ap (frame_sharers m1) at, maps.free))));
       takes = took_frame s new took;
       one = took_one s new store also took;
       leaf = owns_later (shown s) (shown m1) (shown new) t (p / 1024) maps.grid (owns_earlier (shown s) (shown m0) (shown m1) t (p / 1024) (ap (λ (it : Memory). it.leaves) adds.seen) own);

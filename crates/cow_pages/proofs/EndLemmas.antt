@@ -261,9 +261,9 @@ ending_own first s bare new t i l shares place own c rest takes e =
     let still : leaf_sharers bare l ≡ 1 = ap (λ (it : Store). leaf_sharers it l) rest ∙ own in
     let within : l < length bare.leaf_counts.counts = omega (arith, leaf_within s l (leaf_held s kept.counts t i l place), ap (λ (it : Store). length it.leaf_counts.counts) rest) in
     let empty : (a : ℕ) → cell (leaf_grid bare) l a ≡ None = λ a.
-        ap (λ (g : List (List (Option Entry))). cell g l a) clears.clears.leaves
-        ∙ ap (λ (row : List (Option Entry)). get_or row a None) (get_or-set_same (leaf_grid s) l (replicate 1024 None) [] clears.clears.there)
-        ∙ get_or-none 1024 a in
+    ap (λ (g : List (List (Option Entry))). cell g l a) clears.clears.leaves
+    ∙ ap (λ (row : List (Option Entry)). get_or row a None) (get_or-set_same (leaf_grid s) l (replicate 1024 None) [] clears.clears.there)
+    ∙ get_or-none 1024 a in
     let leaves = takes_leaves bare new t i l shares now within (omega (arith, still)) takes (inr empty) in
     let b : Bares s bare t i l = record {
       frame_len = c.len;

@@ -56,18 +56,17 @@ unmapped_steps s m new t p l e sh store place own is alone c =
     let sets : SetsOwn s new t p l None =
     sets_own s new t p l None ready (ap (λ (it : Store). leaf_grid it) c.counted ∙ c.grid) re.grid leaves_is
     (λ f.
-        let now : frame_sharers new f ≡ count_of sh f = ap (λ (it : Shares). count_of it f) counts_is in
-        let was = ap (λ (o : Option Entry). one_held frame_key o f) there in
-        elim (cases_eq f e.frame) [
-          | inl here ↦
-              omega (arith, now, ap (count_of sh) here, count-here s.frame_counts sh e.frame n c.counts within, ap (frame_sharers s) here, alone, was, one-yes e.frame f (sym here))
-          | inr off ↦
-              omega (arith, now, count-other s.frame_counts sh e.frame n c.counts f off, was, one-no e.frame f (λ same. off (sym same)))
-        ]) in
+    let now : frame_sharers new f ≡ count_of sh f = ap (λ (it : Shares). count_of it f) counts_is in
+    let was = ap (λ (o : Option Entry). one_held frame_key o f) there in
+    elim (cases_eq f e.frame) [
+      | inl here ↦
+          omega (arith, now, ap (count_of sh) here, count-here s.frame_counts sh e.frame n c.counts within, ap (frame_sharers s) here, alone, was, one-yes e.frame f (sym here))
+      | inr off ↦
+          omega (arith, now, count-other s.frame_counts sh e.frame n c.counts f off, was, one-no e.frame f (λ same. off (sym same)))
+    ]) in
     let room : HasRoom new = HasRoom-tables s new store.room frames_is
     (ap (λ (it : Shares). length it.counts) counts_is ∙ ap (λ (cs : List ℕ). length cs) c.counts ∙ length-set s.frame_counts.counts e.frame n)
-    (subst AreTallied (sym counts_is) c.tallied) (subst AreTallied (sym leaves_is) store.room.leaves_tallied) numbers re.live re.len (λ u. ap (λ (g : List Row). length (get_or g u [])) re.grid) in
-    (
+    (subst AreTallied (sym counts_is) c.tallied) (subst AreTallied (sym leaves_is) store.room.leaves_tallied) numbers re.live re.len (λ u. ap (λ (g : List Row). length (get_or g u [])) re.grid) in (
       unset_store s new t p l e ready is sets re room (subst CountsSlots (sym c.counted) c.slots) (λ k off. ap (λ (it : Store). pages_kept it k) c.counted ∙ c.pages k off),
       record {
         entries = set_entries s new t p l None kept sets;
@@ -131,8 +130,7 @@ left_steps s new t i l sh ready none c =
       leaves = record { leaves = ap (λ (it : Store). leaf_grid it) c.rest; sharers = λ f. ap (λ (it : Store). frame_sharers it f) c.rest };
     } in
     let also = leave_kept s new t i l kept leaves in
-    let rows = row-length s new t i None sets in
-    (
+    let rows = row-length s new t i None sets in (
       record {
         kept = also;
         room = HasRoom-tables s new ready.room (ap (λ (it : Store). it.frames) c.rest) (ap (λ (it : Store). length it.frame_counts.counts) c.rest)

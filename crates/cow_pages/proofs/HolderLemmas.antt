@@ -25,7 +25,6 @@ holders-no xs x f apart = count-step (λ y. eqb y f) x xs ∙ ap (λ n. n + hold
 pub holders-append : (xs ys : List ℕ) (f : ℕ) → holders (xs ++ ys) f ≡ holders xs f + holders ys f
 holders-append xs ys f = sum_by-append _ xs ys
 
-
 -- how many numbers below n from k on are not in the list
 abbrev pub absent : List ℕ → ℕ → ℕ → ℕ
 absent xs k n = count_by (λ i. eqb (holders xs i) 0) (numbers_from k n)
@@ -89,7 +88,6 @@ pub distinct_and_absent : (xs : List ℕ) (n : ℕ) → AreBelow n xs → distin
 distinct_and_absent [] n below = rw zero-add (absent_none 0 n)
 distinct_and_absent (x ∷ xs) n below =
     omega (arith, distinct_and_absent xs n below.1, absent_at xs x 0 n (omega arith) (omega (arith, below.0)), any_holders xs x)
-
 
 pub page_in-below : (xs : Table) (k p : ℕ) → RisesFrom k xs → p < k → page_in xs p ≡ None
 page_in-below [] k p rises below = refl

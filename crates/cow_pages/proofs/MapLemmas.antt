@@ -103,10 +103,9 @@ mapped_steps s m1 m2 new t p l f ready window unmapped c =
     let numbers : new.table_counts ≡ s.table_counts = ap (λ (it : Store). it.table_counts) c.counted ∙ ap (λ (it : Store). it.table_counts) c.put ∙ ap (λ (it : Store). it.table_counts) c.took in
     let room : HasRoom new = HasRoom-bytes s new f (replicate page_bytes 0) ready.room bytes (length-replicate {A = ℕ} page_bytes 0) (small_zeros page_bytes) len
     (ap (λ (it : Shares). length it.counts) counts_is ∙ ap (λ (cs : List ℕ). length cs) c.holds.counts ∙ length-set s.frame_counts.counts f 1)
-    (subst AreTallied (sym counts_is) c.holds.tallied) leaves_is numbers re.live re.len re.grid in
-    (
+    (subst AreTallied (sym counts_is) c.holds.tallied) leaves_is numbers re.live re.len re.grid in (
       set_store s new t p l None e ready window unmapped sets (lone_free s t p f kept c.holds.free) re room (subst CountsSlots (sym c.counted) c.slots)
-      (λ k off. ap (λ (it : Store). pages_kept it k) c.counted ∙ c.pages k off ∙ ap (λ (it : Store). pages_kept it k) c.took),
+          (λ k off. ap (λ (it : Store). pages_kept it k) c.counted ∙ c.pages k off ∙ ap (λ (it : Store). pages_kept it k) c.took),
       record {
         frame = f;
         free = c.holds.free;

@@ -51,10 +51,9 @@ marked_steps s m new t p l e store place own is alone c =
     sets_own s new t p l (Some (flagged e)) ready (ap (λ (it : Store). leaf_grid it) c.counted ∙ c.grid) re.grid leaves_is
     (λ f. omega (arith, ap (λ (it : Shares). count_of it f) counts_is, ap (λ (o : Option Entry). one_held frame_key o f) there)) in
     let room : HasRoom new = HasRoom-tables s new store.room frames_is (ap (λ (it : Shares). length it.counts) counts_is) (subst AreTallied (sym counts_is) store.room.frames_tallied)
-    (subst AreTallied (sym leaves_is) store.room.leaves_tallied) numbers re.live re.len (λ u. ap (λ (g : List Row). length (get_or g u [])) re.grid) in
-    (
+    (subst AreTallied (sym leaves_is) store.room.leaves_tallied) numbers re.live re.len (λ u. ap (λ (g : List Row). length (get_or g u [])) re.grid) in (
       set_store s new t p l (Some e) (flagged e) ready (kept.pages.in_window t p e is) is sets alone re room (subst CountsSlots (sym c.counted) c.slots)
-      (λ k off. ap (λ (it : Store). pages_kept it k) c.counted ∙ c.pages k off),
+          (λ k off. ap (λ (it : Store). pages_kept it k) c.counted ∙ c.pages k off),
       record {
         entries = set_entries s new t p l (Some (flagged e)) kept sets;
         grid = re.grid;

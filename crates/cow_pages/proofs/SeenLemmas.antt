@@ -144,8 +144,8 @@ map_zero_shown s mid new t p l f kept ready window free sets bytes beside =
         now = page_at-shown new also t p ∙ ap (option_map (page_of_entry new)) entries.here ∙ ap (λ (bs : List ℕ). Some (page_as bs false f)) bytes.here;
       };
       rest = changes-back (shown s) (shown mid) (shown new) t p same (live-kept s mid ready.beside) ready.beside.reads
-      (ChangesPage-set mid new t p (Some (fresh_entry f)) ready.kept also entries beside
-      (λ u q d off is. bytes.others d.frame (λ at. omega (arith, frame_held mid ready.kept.counts u q d is, ap (frame_sharers mid) at, free))));
+          (ChangesPage-set mid new t p (Some (fresh_entry f)) ready.kept also entries beside
+          (λ u q d off is. bytes.others d.frame (λ at. omega (arith, frame_held mid ready.kept.counts u q d is, ap (frame_sharers mid) at, free))));
       alone = one_sharer new also t p (fresh_entry f) entries.here (λ u q d is at. elim (this_or_other u t q p) [
         | inl here ↦ here
         | inr off ↦ absurd (omega (arith, frame_held mid ready.kept.counts u q d (sym (entries.others u q off) ∙ is), ap (frame_sharers mid) at, free))
@@ -205,8 +205,8 @@ owned_copied s mid new t p l f e kept ready is more free sets bytes beside windo
       bytes = bytes.here ∙ ready.bytes e.frame;
       frame_is = inr (shared-back (shown s) (shown mid) t p same shared, free-back (shown s) (shown mid) f same (is_free mid ready.kept f free));
       rest = changes-back (shown s) (shown mid) (shown new) t p same (live-kept s mid ready.beside) ready.beside.reads
-      (ChangesPage-set mid new t p (Some (fresh_entry f)) ready.kept also entries beside
-      (λ u q d off at. bytes.others d.frame (λ here. omega (arith, frame_held mid ready.kept.counts u q d at, ap (frame_sharers mid) here, free))));
+          (ChangesPage-set mid new t p (Some (fresh_entry f)) ready.kept also entries beside
+          (λ u q d off at. bytes.others d.frame (λ here. omega (arith, frame_held mid ready.kept.counts u q d at, ap (frame_sharers mid) here, free))));
     }
 
 pub record Written (s new : Store) (t at : ℕ) (bs : List ℕ) : Type 0 where
@@ -233,7 +233,7 @@ write_shown s mid new t at l e own bs kept is owned sets bytes beside =
         now = page_at-shown new also t p ∙ ap (option_map (page_of_entry new)) entries.here
             ∙ ap (λ (it : List ℕ). Some (page_as it true own.frame)) (bytes.here ∙ ap (λ (it : List ℕ). patched it (offset_of at) bs) owned.bytes);
         rest = more (ChangesPage-set mid new t p (Some (record own { written = true })) ready.kept also entries beside
-        (λ u q d off there. bytes.others d.frame (λ same. let here = alone u q d there same in elim off [ inl far ↦ far here.0 | inr far ↦ far here.1 ])));
+            (λ u q d off there. bytes.others d.frame (λ same. let here = alone u q d there same in elim off [ inl far ↦ far here.0 | inr far ↦ far here.1 ])));
       };
     }
   where

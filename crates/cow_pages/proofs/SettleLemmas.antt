@@ -104,14 +104,14 @@ clears_own s new t i l kept place own grid rest =
       sharers = λ f. omega (arith, ap (λ (it : Store). frame_sharers it f) rest, held-cleared row f);
     } in
     let here : (q : ℕ) → q / 1024 ≡ i → entry_at new t q ≡ cleared (entry_at s t q) = λ q at.
-        ap (λ (g : List Row). entry_in new (cell g t (q / 1024)) (q % 1024)) tables
-        ∙ ap (λ (o : Option ℕ). entry_in new o (q % 1024)) (ap (place_at s t) at ∙ place)
-        ∙ ap (λ (g : List (List (Option Entry))). cell g l (q % 1024)) grid
-        ∙ ap (λ (it : List (Option Entry)). get_or it (q % 1024) None) (get_or-set_same (leaf_grid s) l (map cleared row) [] there)
-        ∙ cleared-at row (q % 1024)
-        ∙ sym (ap (λ (o : Option ℕ). cleared (entry_in s o (q % 1024))) (ap (place_at s t) at ∙ place)) in
+    ap (λ (g : List Row). entry_in new (cell g t (q / 1024)) (q % 1024)) tables
+    ∙ ap (λ (o : Option ℕ). entry_in new o (q % 1024)) (ap (place_at s t) at ∙ place)
+    ∙ ap (λ (g : List (List (Option Entry))). cell g l (q % 1024)) grid
+    ∙ ap (λ (it : List (Option Entry)). get_or it (q % 1024) None) (get_or-set_same (leaf_grid s) l (map cleared row) [] there)
+    ∙ cleared-at row (q % 1024)
+    ∙ sym (ap (λ (o : Option ℕ). cleared (entry_in s o (q % 1024))) (ap (place_at s t) at ∙ place)) in
     let others : (u q : ℕ) → (u ≢ t) ⊎ (q / 1024 ≢ i) → entry_at new u q ≡ entry_at s u q = λ u q off.
-        ap (λ (g : List Row). entry_in new (cell g u (q / 1024)) (q % 1024)) tables ∙ by_leaf there u q off (place_at s u (q / 1024)) refl in
+    ap (λ (g : List Row). entry_in new (cell g u (q / 1024)) (q % 1024)) tables ∙ by_leaf there u q off (place_at s u (q / 1024)) refl in
     record {
       kept = record {
         whole = whole-set s new l (map cleared row) kept.whole grid there (length-map row cleared ∙ leaf_length s kept t i l place) len;

@@ -95,7 +95,7 @@ is_shared s kept t p e is shared = (
   shared.table,
   shared.apart,
   frame-shown s kept shared.table p ∙ ap (option_map (λ (it : Entry). it.frame)) shared.is ∙ ap {A = ℕ} Some shared.same
-  ∙ sym (frame-shown s kept t p ∙ ap (option_map (λ (it : Entry). it.frame)) is),
+      ∙ sym (frame-shown s kept t p ∙ ap (option_map (λ (it : Entry). it.frame)) is),
 )
 
 -- the two tests of a writer: both counts are 1, or one of them is more

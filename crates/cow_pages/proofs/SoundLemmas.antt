@@ -157,47 +157,47 @@ shared_unwritten s kept t u i l a e apart one other below is = by_flag e.written
 
 pub sound : (s : Store) → IsStore s → IsSound (shown s)
 sound s store =
-  let kept = store.kept in
-  let room = store.room in
-  record {
-  rising = rises s;
-  in_range = λ t p f is. let a = framed s kept t p f is in subst (λ n. n < length s.frames.items) a.1.1 (entry_within s kept room t p a.0 a.1.0);
-  in_window = λ t p is. by_page t p (page_at (shown s) t p) refl is;
-  whole = λ t p page is. let b = behind s kept t p page is in ap (λ (it : Page). length it.bytes) (sym b.shows) ∙ room.whole b.entry.frame (entry_within s kept room t p b.entry b.is);
-  bytes = λ t p page is. let b = behind s kept t p page is in subst (λ (it : Page). All (λ b. b < 256) it.bytes) b.shows (room.bytes b.entry.frame (entry_within s kept room t p b.entry b.is));
-  same_page = λ t p u q f one other.
-      let a = framed s kept t p f one in
-      let b = framed s kept u q f other in
-      kept.pages.same_page t p u q a.0 b.0 a.1.0 b.1.0 (a.1.1 ∙ sym b.1.1);
-  same_bytes = λ t u p one other is also same.
-      let a = behind s kept t p one is in
-      let b = behind s kept u p other also in
-      sym (ap (λ (it : Page). it.bytes) a.shows) ∙ ap (bytes_of s) (ap (λ (it : Page). it.frame) a.shows ∙ same ∙ sym (ap (λ (it : Page). it.frame) b.shows)) ∙ ap (λ (it : Page). it.bytes) b.shows;
-  written_alone = λ t p is.
-      let w = flagged (page_at (shown s) t p) is in
-      let b = behind s kept t p w.0 w.1.0 in
-      one_sharer s kept t p b.entry b.is
-      (λ u q d at same.
-      (sym (kept.pages.alone t p u q b.entry d b.is at (sym same) (ap (λ (it : Page). it.written) b.shows ∙ w.1.1)), sym (kept.pages.same_page t p u q b.entry d b.is at (sym same))));
-  counted = omega (arith, counted s kept room);
-  leaf_there = λ t p is. let e = entry_of t p (page_at (shown s) t p) refl is in ap (λ (o : Option ℕ). is_some o) (stands s t p e.0 e.1).place;
-  leaf_filled = λ t i l place.
-      let f = leaf_page s kept store.slots t i l place (store.filled t i l place) in
-      let at = entry_put s t i f.0 l f.1 f.2.0 place f.2.1 in (
-        i * 1024 + f.0,
-        div-mul-add i 1024 f.0 f.2.0,
-        ap (λ (o : Option Page). is_some o) (page_at-shown s kept t (i * 1024 + f.0) ∙ ap (option_map (page_of_entry s)) at),
-      );
-  same_leaf = λ t i u j l one other.
-      let f = leaf_page s kept store.slots t i l one (store.filled t i l one) in
-      let index = same_index s kept t i u j l f.0 f.1 one other f.2.0 f.2.1 in (
-        index,
-        λ p at.
-            page_at-shown s kept t p
-            ∙ ap (λ (o : Option ℕ). option_map (page_of_entry s) (entry_in s o (p % 1024))) (ap (place_at s t) at ∙ one ∙ sym other ∙ ap (place_at s u) (sym index ∙ sym at))
-            ∙ sym (page_at-shown s kept u p),
-      );
-}
+    let kept = store.kept in
+    let room = store.room in
+    record {
+      rising = rises s;
+      in_range = λ t p f is. let a = framed s kept t p f is in subst (λ n. n < length s.frames.items) a.1.1 (entry_within s kept room t p a.0 a.1.0);
+      in_window = λ t p is. by_page t p (page_at (shown s) t p) refl is;
+      whole = λ t p page is. let b = behind s kept t p page is in ap (λ (it : Page). length it.bytes) (sym b.shows) ∙ room.whole b.entry.frame (entry_within s kept room t p b.entry b.is);
+      bytes = λ t p page is. let b = behind s kept t p page is in subst (λ (it : Page). All (λ b. b < 256) it.bytes) b.shows (room.bytes b.entry.frame (entry_within s kept room t p b.entry b.is));
+      same_page = λ t p u q f one other.
+          let a = framed s kept t p f one in
+          let b = framed s kept u q f other in
+          kept.pages.same_page t p u q a.0 b.0 a.1.0 b.1.0 (a.1.1 ∙ sym b.1.1);
+      same_bytes = λ t u p one other is also same.
+          let a = behind s kept t p one is in
+          let b = behind s kept u p other also in
+          sym (ap (λ (it : Page). it.bytes) a.shows) ∙ ap (bytes_of s) (ap (λ (it : Page). it.frame) a.shows ∙ same ∙ sym (ap (λ (it : Page). it.frame) b.shows)) ∙ ap (λ (it : Page). it.bytes) b.shows;
+      written_alone = λ t p is.
+          let w = flagged (page_at (shown s) t p) is in
+          let b = behind s kept t p w.0 w.1.0 in
+          one_sharer s kept t p b.entry b.is
+          (λ u q d at same.
+          (sym (kept.pages.alone t p u q b.entry d b.is at (sym same) (ap (λ (it : Page). it.written) b.shows ∙ w.1.1)), sym (kept.pages.same_page t p u q b.entry d b.is at (sym same))));
+      counted = omega (arith, counted s kept room);
+      leaf_there = λ t p is. let e = entry_of t p (page_at (shown s) t p) refl is in ap (λ (o : Option ℕ). is_some o) (stands s t p e.0 e.1).place;
+      leaf_filled = λ t i l place.
+          let f = leaf_page s kept store.slots t i l place (store.filled t i l place) in
+          let at = entry_put s t i f.0 l f.1 f.2.0 place f.2.1 in (
+            i * 1024 + f.0,
+            div-mul-add i 1024 f.0 f.2.0,
+            ap (λ (o : Option Page). is_some o) (page_at-shown s kept t (i * 1024 + f.0) ∙ ap (option_map (page_of_entry s)) at),
+          );
+      same_leaf = λ t i u j l one other.
+          let f = leaf_page s kept store.slots t i l one (store.filled t i l one) in
+          let index = same_index s kept t i u j l f.0 f.1 one other f.2.0 f.2.1 in (
+            index,
+            λ p at.
+                page_at-shown s kept t p
+                ∙ ap (λ (o : Option ℕ). option_map (page_of_entry s) (entry_in s o (p % 1024))) (ap (place_at s t) at ∙ one ∙ sym other ∙ ap (place_at s u) (sym index ∙ sym at))
+                ∙ sym (page_at-shown s kept u p),
+          );
+    }
   where
     entry_of : (t p : ℕ) (o : Option Page) → page_at (shown s) t p ≡ o → IsTrue (is_some o) → (e : Entry) × (entry_at s t p ≡ Some e)
     entry_of t p None at is = absurd (true≢false (sym is))

@@ -81,8 +81,7 @@ has_shared s store t i l place more =
     let f = o.found in
     let at : place_at s f.row f.column ≡ Some l = f.is ∙ ap {A = ℕ} Some f.same in
     let e = leaf_page s kept store.slots t i l place (store.filled t i l place) in
-    let column : f.column ≡ i = same_index s kept f.row f.column t i l e.0 e.1 at place e.2.0 e.2.1 in
-    (
+    let column : f.column ≡ i = same_index s kept f.row f.column t i l e.0 e.1 at place e.2.0 e.2.1 in (
       f.row,
       elim o.apart [ inl off ↦ off | inr off ↦ absurd (off column) ],
       ap (place_at s f.row) (sym column) ∙ at ∙ sym place,

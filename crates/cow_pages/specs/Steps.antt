@@ -150,7 +150,6 @@ pub record Ready (s new : Store) (t i l : ℕ) : Type 0 where
   pub bytes : SameBytes s new
   pub beside : Beside s new
 
-
 -- the entries of a table below an index went
 pub record Dropping (s new : Store) (t i : ℕ) : Type 0 where
   pub kept : IsKept new

@@ -65,7 +65,7 @@ unshare-requires-clause-held c =
       arith,
       leaf_held s c.requires.store.kept.counts c.args.t c.args.index c.args.from c.requires.place,
       left_sharers s c.share_row.new.self c.copy_entries.new.self c.args.t c.args.index c.args.from c.take-to.result c.take-to.new.self c.requires.store c.requires.place c.share_row.ensures.rest c.take-to.ensures.free
-      c.take-to.ensures.counts c.copy_entries.ensures.rest,
+          c.take-to.ensures.counts c.copy_entries.ensures.rest,
     )
 
 pub set_place-requires-clause-live : goal.set_place-requires-clause-live

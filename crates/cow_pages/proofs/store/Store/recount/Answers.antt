@@ -37,7 +37,7 @@ returns-clause-recounts c =
             ap (λ (o : Option Table). count_in (mapped_counts o) w) here,
             ap (λ (o : Option Table). count_in (mapped_counts o) w) r.was,
             recounted old.mapped mid.mapped table.mapped v w (one_mapped c.args.gone) (one_mapped c.args.came) (mapped_one w c.args.page c.args.gone) (mapped_one w c.args.page c.args.came)
-            mapped_fits c.uncount.ensures.mapped c.count.ensures.mapped (in_mapped c.args.gone) (in_mapped c.args.came),
+                mapped_fits c.uncount.ensures.mapped c.count.ensures.mapped (in_mapped c.args.gone) (in_mapped c.args.came),
           );
       written = λ w.
           let in_written = λ (o : Option Entry). written_one-own w c.args.page o c.requires.window ∙ ap (λ (it : Window). cond {A = ℕ} (same_window it w) (one_written o) 0) (sym c.window_of-window.ensures) in
@@ -46,7 +46,7 @@ returns-clause-recounts c =
             ap (λ (o : Option Table). count_in (written_counts o) w) here,
             ap (λ (o : Option Table). count_in (written_counts o) w) r.was,
             recounted old.written mid.written table.written v w (one_written c.args.gone) (one_written c.args.came) (written_one w c.args.page c.args.gone) (written_one w c.args.page c.args.came)
-            written_fits c.uncount.ensures.written c.count.ensures.written (in_written c.args.gone) (in_written c.args.came),
+                written_fits c.uncount.ensures.written c.count.ensures.written (in_written c.args.gone) (in_written c.args.came),
           );
       others = replaced-other s new c.args.t old table r;
       grid = replaced-grid s new c.args.t old table r leaves;
