@@ -7,7 +7,7 @@ use Rattle.heap_graph.specs.declared.names.Place.TheVariants as place
 use Rattle.heap_graph.specs.Graph.{Object, image_size, size_of_object}
 use Rattle.heap_graph.specs.Packing as packing
 use Rattle.heap_graph.proofs.Sizes.{after-above, size-least}
-use Rattle.heap_world.specs.Formed.{AreRising, IsBehindImage, IsBehindZygote, zygote_next}
+use Rattle.heap_graph.specs.Formed.{AreRising, IsBehindImage, IsBehindZygote, zygote_next}
 use Rattle.address_table.specs.Computed.{address_in, end_behind, large_behind, packed_at, slot_at, table_from, AreNumbers, Homes}
 use Rattle.address_table.proofs.Behind.{all-behind, first-behind, region-below, rest-tail, rising-in, table-first, table-later, Behind, Rest}
 

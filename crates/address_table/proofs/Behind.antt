@@ -10,7 +10,7 @@ use Rattle.heap_graph.specs.Packing.{after}
 use Rattle.heap_graph.specs.Packing as packing
 use Rattle.heap_graph.proofs.Sizes.{after-above, size-least}
 use Rattle.heap_graph.proofs.Totals.{total}
-use Rattle.heap_world.specs.Formed.{AreRising, FillImage, FillZygote, IsBehindImage, IsBehindZygote, zygote_next}
+use Rattle.heap_graph.specs.Formed.{AreRising, FillImage, FillZygote, IsBehindImage, IsBehindZygote, zygote_next}
 use Rattle.heap_world.proofs.Placed.{top-max, zygote_top}
 use Rattle.address_table.specs.Computed.{address_in, end_behind, large_behind, large_count, packed_at, slot_at, table_from, AreNumbers, Homes}
 

@@ -9,7 +9,7 @@ use Rattle.heap_graph.specs.declared.names.Place.{Place}
 use Rattle.heap_graph.specs.declared.names.Place.TheVariants as place
 use Rattle.heap_graph.specs.Graph.{Graph, Object, object_at}
 use Rattle.heap_graph.specs.Table.{packing, region_of, Fits, IsPackedAt, IsPlacedAt}
-use Rattle.heap_world.specs.Formed.{IsFormed}
+use Rattle.heap_graph.specs.Formed.{IsFormed}
 use Rattle.heap_world.proofs.Placed.{placed_of, used-is, young_end, young_next}
 use Rattle.address_table.specs.Computed.{address_in, end_behind, large_behind, packed_at, table_from, table_of, Homes, HouseAll}
 use Rattle.address_table.proofs.Behind.{all-behind, last_end, region-below, Behind, Rest}
@@ -66,13 +66,13 @@ module _ (homes : Homes) (g : Graph) (formed : IsFormed g) (house : HouseAll hom
   last : ℕ
   last = last_end g.classes 0 g.objects
 
-  roomy : (last_end g.classes 0 g.objects + 262143) / 262144 ≤ length homes.regions
+  pub roomy : (last_end g.classes 0 g.objects + 262143) / 262144 ≤ length homes.regions
   roomy = omega (arith, used-is g, last-is g.classes 0 g.objects, house.for_young)
 
   few : g.budget ≤ 512
   few = formed.budget
 
-  rest : Rest homes g.classes g.budget (last_end g.classes 0 g.objects) 0 0 0 0 g.objects
+  pub rest : Rest homes g.classes g.budget (last_end g.classes 0 g.objects) 0 0 0 0 g.objects
   rest =
       let placed = placed_of g formed in
       record {

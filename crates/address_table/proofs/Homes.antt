@@ -9,7 +9,7 @@ use Rattle.heap_graph.specs.Packing.{cost}
 use Rattle.heap_graph.specs.Sizes.{unrounded}
 use Rattle.heap_graph.proofs.Sizes.{unrounded-least}
 use Rattle.heap_graph.proofs.Totals.{total}
-use Rattle.heap_world.specs.Formed.{IsFormed}
+use Rattle.heap_graph.specs.Formed.{IsFormed}
 use Rattle.heap_world.specs.Pages.{count_from}
 use Rattle.heap_world.proofs.Bounds.{length-count}
 use Rattle.heap_world.proofs.Placed.{costs-is}

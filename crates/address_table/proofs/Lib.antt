@@ -4,3 +4,4 @@ mod Packed
 pub mod Fitting
 pub mod Homes
 pub mod Listed
+pub mod Beside

@@ -3,7 +3,7 @@ use Rattle.std.proofs.Common.{◌≡◌, ℕ, ◌+◌, inl, inr, List, [], ◌�
 use Rattle.class_layout.specs.ClassList.{Class}
 use Rattle.class_layout.specs.Placing.{IsIn}
 use Rattle.heap_graph.specs.Graph.{Object}
-use Rattle.heap_world.specs.Formed.{AreRising}
+use Rattle.heap_graph.specs.Formed.{AreRising}
 use Rattle.address_table.specs.Computed.{address_in, addresses_from, end_behind, large_behind, table_from, Homes}
 use Rattle.address_table.proofs.Behind.{rising-in, table-first, table-later}
 

@@ -9,7 +9,7 @@ use Rattle.heap_graph.specs.Graph.{Object, is_young, size_of_object}
 use Rattle.heap_graph.specs.Packing.{after, places_from}
 use Rattle.heap_graph.specs.Packing as packing
 use Rattle.heap_graph.proofs.Sizes.{after-above, size-least}
-use Rattle.heap_world.specs.Formed.{AreRising}
+use Rattle.heap_graph.specs.Formed.{AreRising}
 use Rattle.address_table.specs.Computed.{address_in, end_behind, large_behind, packed_at, table_from, Homes}
 use Rattle.address_table.proofs.Behind.{last-rises, last_end, rising-in, table-first, table-later}
 

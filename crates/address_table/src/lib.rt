@@ -4,4 +4,6 @@
 
 mod laws;
 
-pub use laws::{addresses_are_listed, first_homes_suffice, null_is_no_object, tables_fit};
+pub use laws::{
+    addresses_are_listed, first_homes_suffice, null_is_no_object, objects_lie_apart, tables_fit,
+};

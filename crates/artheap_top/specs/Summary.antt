@@ -5,7 +5,7 @@ use Rattle.heap_world.specs.declared.reply.Reply.TheVariants as reply
 use Rattle.heap_world.specs.Effect.{is_refusal}
 use Rattle.heap_world.specs.Run.{Answer}
 use Rattle.heap_world.specs.World.{frame_count}
-use Rattle.plain_machine.specs.Counts.{live_count, live_objects}
+use Rattle.heap_world.specs.Counts.{live_count, live_objects}
 use Rattle.script_make.specs.Script.{soak_lines}
 use Rattle.artheap_top.specs.declared.summary.Summary.{Summary}
 use Rattle.script_report.specs.Report.{answers_of, world_of}

@@ -1,12 +1,13 @@
 //! A script that is generated from two numbers, and its summary.
-ghost use Rattle.std.specs.Prelude.{◌≡◌, ◌+◌, ◌<◌, ◌≤◌, ◌^◌, ◌++◌, ◌∷◌, [], ℕ, List, IfOk, OnOk, length};
+ghost use Rattle.std.specs.Prelude.{◌≡◌, ◌+◌, ◌<◌, ◌≤◌, ◌^◌, ◌++◌, ◌∷◌, [], ℕ, List, IfOk, OnErr, OnOk, length};
 ghost use Rattle.heap_world.specs.World.{empty_world, first_world};
-ghost use Rattle.plain_machine.specs.Worlds.{StandsFor};
+ghost use Rattle.plain_machine.specs.Worlds.{StandsAmong, StandsFor};
 ghost use Rattle.script_make.specs.Boot.{boot_lines};
 ghost use Rattle.script_make.specs.Script.{first_state, made_lines, soak_lines};
 ghost use Rattle.model_numbers.specs.Numbers.{line_limit, most_regions};
 ghost use Rattle.job_status.specs.Status.{job_status};
-ghost use Rattle.artheap_top.specs.Soaking.{EndedSoak, HasSoaked, IsWithinLines, soak_output};
+ghost use Rattle.script_report.specs.Wanting.{left_behind};
+ghost use Rattle.artheap_top.specs.Soaking.{EndedSoak, HasSoaked, IsWithinLines, LeftBetween, soak_output};
 
 use crate::Machine;
 use crate::summary::Summary;
@@ -32,6 +33,8 @@ fn run_line(
     ensures within { OnOk result (IsWithinLines tally.new) }
     ensures done { (budget : ℕ) (before : List (List ℕ)) → HasSoaked budget before tally.old machine.old →
         OnOk result (HasSoaked budget (before ++ line.now ∷ []) tally.new machine.new) }
+    ensures left { (budget : ℕ) (before : List (List ℕ)) → HasSoaked budget before tally.old machine.old →
+        OnErr result (StandsAmong machine.new (left_behind budget before line.now)) }
 {
     let fed = Fed::Line {
         number: tally.lines + 1,
@@ -50,6 +53,8 @@ fn run_fixed(alloc: Global, tally: &mut Tally, machine: &mut Machine) -> Result<
     ensures within { OnOk result (IsWithinLines tally.new) }
     ensures done { (budget : ℕ) (before : List (List ℕ)) → HasSoaked budget before tally.old machine.old →
         OnOk result (HasSoaked budget (before ++ boot_lines) tally.new machine.new) }
+    ensures left { (budget : ℕ) (before : List (List ℕ)) → HasSoaked budget before tally.old machine.old →
+        OnErr result (LeftBetween budget before boot_lines machine.new) }
 {
     let mut buf = [0; 96];
     let mut k = 0;
@@ -75,6 +80,8 @@ fn run_made(
     ensures within { OnOk result (IsWithinLines tally.new) }
     ensures done { (budget : ℕ) (before : List (List ℕ)) → HasSoaked budget before tally.old machine.old →
         OnOk result (HasSoaked budget (before ++ made_lines count (first_state start)) tally.new machine.new) }
+    ensures left { (budget : ℕ) (before : List (List ℕ)) → HasSoaked budget before tally.old machine.old →
+        OnErr result (LeftBetween budget before (made_lines count (first_state start)) machine.new) }
 {
     let mut buf = [0; 64];
     let mut state = MakeState { x: start, forks: 0 };
@@ -94,8 +101,10 @@ fn run_script(
     machine: &mut Machine,
 ) -> Result<Tally, AllocError>
     requires small { start < 2147483648 }
-    ensures { (budget : ℕ) → StandsFor machine.old (first_world budget 1) →
+    ensures done { (budget : ℕ) → StandsFor machine.old (first_world budget 1) →
         IfOk result (λ tally. HasSoaked budget (soak_lines start count) tally machine.new) }
+    ensures left { (budget : ℕ) → StandsFor machine.old (first_world budget 1) →
+        OnErr result (LeftBetween budget [] (soak_lines start count) machine.new) }
 {
     let mut tally = Tally::new();
     run_fixed(alloc, &mut tally, machine)?;

@@ -29,8 +29,9 @@ use std::alloc::Global;
 /// a generator makes of two numbers, START up to 2,147,483,647 and COUNT up to 1,000,000, and puts a summary. N is the
 /// budget of each process in regions, 1 to 512, and 64 if it isn't given.
 ///
-/// The machine is new. At the end of a job it stands for the world after the lines that were run, but for a job that
-/// wanted memory. A reading leaves it as it was.
+/// The machine is new. At the end of a job it stands for the world after the lines that were run. Where memory was wanting
+/// for a line, that line's process may besides have been collected or, by a fork, promoted; where it was wanting before the
+/// first line, the machine may be new. A reading leaves it as it was.
 pub fn artheap<S: Source, W: Sink, F: Shelf>(
     alloc: Global,
     words: &[String],

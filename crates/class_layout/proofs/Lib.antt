@@ -1,5 +1,6 @@
 pub mod ClassLists
 pub mod Copies
+pub mod Declared
 pub mod Growth
 pub mod Layouts
 pub mod Lists

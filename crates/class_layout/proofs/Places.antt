@@ -17,6 +17,10 @@ module _ {X : Type 0} where
   IsIn-left x [] ys h = absurd h
   IsIn-left x (y ∷ xs) ys h = elim h [ inl e ↦ inl e | inr r ↦ inr (IsIn-left x xs ys r) ]
 
+  pub IsIn-right : (x : X) (xs ys : List X) → IsIn x ys → IsIn x (xs ++ ys)
+  IsIn-right x [] ys h = h
+  IsIn-right x (y ∷ xs) ys h = inr (IsIn-right x xs ys h)
+
   pub IsIn-last : (x : X) (xs : List X) → IsIn x (xs ++ x ∷ [])
   IsIn-last x [] = inl refl
   IsIn-last x (y ∷ xs) = inr (IsIn-last x xs)

@@ -1,11 +1,11 @@
-ghost use Rattle.std.specs.Prelude.{◌≡◌, ℕ, ◌+◌, ◌^◌, ◌<◌, ◌≤◌, List, ◌∷◌, [], ◌++◌, Option, Some, Ok, Err, length, map, slice_get, IfOk, IfErr, IfSome, OnErr, MatchResult, nat_eq};
+ghost use Rattle.std.specs.Prelude.{◌≡◌, ℕ, ◌+◌, ◌^◌, ◌<◌, ◌≤◌, List, ◌∷◌, [], ◌++◌, Option, Some, Ok, Err, length, map, slice_get, IfOk, IfErr, IfSome, OnErr, MatchResult};
 ghost use Rattle.std.specs.List.{list_any};
 ghost use Rattle.std.specs.Option.{option_map};
 ghost use Rattle.model_numbers.specs.Numbers.{field_limit};
-ghost use Rattle.class_layout.specs.ClassList.{Class, builtin_classes, layout_of, size_of, superclass_layout, own_fields_of, number_of, declares, repeats, occurs_in, define_class, IsClassList};
+ghost use Rattle.class_layout.specs.ClassList.{Class, builtin_classes, layout_of, size_of, own_fields_of, number_of, declares, repeats, occurs_in, define_class, IsClassList};
 ghost use Rattle.class_layout.specs.Defining.{IsDefinable};
 ghost use Rattle.class_layout.specs.Kinds.{next_multiple};
-ghost use Rattle.class_layout.specs.Layout.{lay_out, field_named, references};
+ghost use Rattle.class_layout.specs.Layout.{field_named, references};
 ghost use Rattle.class_layout.specs.Names.{same_name};
 ghost use Rattle.class_layout.specs.Rows.{IsRow};
 
@@ -296,9 +296,3 @@ fn declares(fields: &[FieldDecl], name: &Name) -> bool
 {
     fields.iter().any(|f| f.name == *name)
 }
-
-/// The layout rule: a class's own fields are laid out behind its superclass's layout, and those of class 1 alone are weak.
-pub fn layout_rule()
-    ensures { (cs : List Class) (k : ℕ) → IsClassList cs → IfSome (slice_get cs k) (λ c.
-        layout_of cs k ≡ lay_out (nat_eq k 1) (superclass_layout cs c.parent) c.fields) }
-{}

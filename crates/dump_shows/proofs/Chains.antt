@@ -1,5 +1,5 @@
 -- The fields of a class and of its superclasses, each with its place: what the class dumps tell, and what the layout says.
-use Rattle.std.proofs.Common.{◌≡◌, ℕ, zero, suc, ◌+◌, ◌<◌, Bool, true, false, not, ◌&&◌, ◌||◌, List, [], ◌∷◌, ◌++◌, Option, Some, None, length, map, filter, nat_eq, slice_get, refl, sym, ap, ◌∙◌, subst, inl, inr, arith, length-append}
+use Rattle.std.proofs.Common.{◌≡◌, ℕ, zero, suc, ◌+◌, ◌<◌, Bool, true, false, ◌||◌, List, [], ◌∷◌, ◌++◌, Option, Some, None, length, map, nat_eq, slice_get, refl, sym, ap, ◌∙◌, subst, inl, inr, arith, length-append}
 use Rattle.std.proofs.lemmas.Bool.{cases_Bool, true≢false}
 use Rattle.std.proofs.lemmas.List.{length-map, map-append}
 use Rattle.std.specs.List.{find, list_any}
@@ -7,27 +7,25 @@ use Rattle.std.specs.Option.{option_map}
 use Rattle.std.specs.Prelude.{unwrap_or}
 use Rattle.class_layout.specs.declared.kind.FieldAt.{FieldAt}
 use Rattle.class_layout.specs.declared.kind.FieldDecl.{FieldDecl}
-use Rattle.class_layout.specs.declared.kind.Kind.{Kind}
-use Rattle.class_layout.specs.declared.kind.Kind.TheVariants.{Ref, Boolean, Byte, Char, Short, Int, Long}
 use Rattle.class_layout.specs.ClassList.{Class, IsClassList, IsEarlier, layout_of, own_fields_of, superclass_layout}
-use Rattle.class_layout.specs.Kinds.{is_ref, kind_bytes, next_multiple}
-use Rattle.class_layout.specs.Layout.{Laid, Placed, field_named, in_layout_order, is_plain, lay_out, place_field, place_fields}
+use Rattle.class_layout.specs.Kinds.{kind_bytes, next_multiple}
+use Rattle.class_layout.specs.Layout.{Laid, Placed, field_named, in_layout_order, lay_out, place_field, place_fields}
 use Rattle.class_layout.specs.Names.{same_name}
 use Rattle.class_layout.specs.Placing.{IsIn, placed_at}
+use Rattle.class_layout.proofs.Declared.{own-found, superclass-places}
 use Rattle.class_layout.proofs.Layouts.{layout_of-class}
 use Rattle.class_layout.proofs.Lists.{at_some, how_many-none}
-use Rattle.class_layout.proofs.Places.{IsIn-last, IsIn-left, IsIn-place_fields}
-use Rattle.class_layout.proofs.Uniqueness.{field_named-inherited, field_named-own, length-in_layout_order, names-same}
+use Rattle.class_layout.proofs.Uniqueness.{field_named-inherited, length-in_layout_order, names-same}
 use Rattle.heap_graph.specs.declared.names.Shape.TheVariants.{Instance}
-use Rattle.object_view.specs.Objects.{places_of}
-use Rattle.object_view.proofs.Laid.{found-in}
+use Rattle.heap_graph.specs.Places.{places_of}
+use Rattle.heap_graph.proofs.Places.{found-in}
 use Rattle.hprof_write.specs.Classes.{class_id, field_entry, parent_id}
 use Rattle.hprof_write.specs.Objects.{no_place, own_places, parent_of, place_named, places_up}
 use Rattle.hprof_write.specs.Strings.{texts}
-use Rattle.hprof_write.proofs.InstancePlaces.{none-beyond, parent-places}
+use Rattle.hprof_write.proofs.InstancePlaces.{none-beyond}
 use Rattle.dump_shows.specs.Reading.{ClassDumped, class_at, fields_up, own_fields, superclass}
 use Rattle.dump_shows.proofs.DumpedParts.{array_read, class_read, classes_read, key}
-use Rattle.dump_shows.proofs.ListParts.{find-first, find-left, find-no, find-none, find-right, find-yes, in-either, in-filter, in-map, in-right, map-map}
+use Rattle.dump_shows.proofs.ListParts.{find-first, find-left, find-no, find-none, find-right, find-yes, in-either, in-map, map-map}
 use Rattle.dump_shows.proofs.Numbered.{no-null, one-class}
 use Rattle.dump_shows.proofs.Texts.{field-text}
 
@@ -124,69 +122,6 @@ module _ (ss : List (List ℕ)) (cs : List Class) where
           ap (λ (o : Option ℕ). fields_up (classes_read ss cs) n (parent_id o)) same ∙ rest p less
           ∙ ap (λ (o : Option ℕ). map (λ (e : Pair). field_entry ss e.0) (pairs_up cs n o)) (sym e)
 
-abbrev refs : List FieldDecl → List FieldDecl
-refs fs = filter (λ f. is_ref f.kind) fs
-
-abbrev of_bytes : ℕ → List FieldDecl → List FieldDecl
-of_bytes n fs = filter (is_plain n) fs
-
--- each field is one of those in layout order
-in-order : (f : FieldDecl) (fs : List FieldDecl) → IsIn f fs → IsIn f (in_layout_order fs)
-in-order f fs there = by f.kind refl
-  where
-    plain : (n : ℕ) (kind : Kind) → f.kind ≡ kind → (not (is_ref kind) && nat_eq (kind_bytes kind) n) ≡ true → IsIn f (of_bytes n fs)
-    plain n kind e is = in-filter (is_plain n) fs f there (ap (λ k. not (is_ref k) && nat_eq (kind_bytes k) n) e ∙ is)
-
-    two : IsIn f (refs fs ++ of_bytes 8 fs) → IsIn f (in_layout_order fs)
-    two h =
-        IsIn-left f (refs fs ++ of_bytes 8 fs ++ of_bytes 4 fs ++ of_bytes 2 fs) (of_bytes 1 fs)
-        (IsIn-left f (refs fs ++ of_bytes 8 fs ++ of_bytes 4 fs) (of_bytes 2 fs) (IsIn-left f (refs fs ++ of_bytes 8 fs) (of_bytes 4 fs) h))
-
-    four : IsIn f (of_bytes 4 fs) → IsIn f (in_layout_order fs)
-    four h =
-        IsIn-left f (refs fs ++ of_bytes 8 fs ++ of_bytes 4 fs ++ of_bytes 2 fs) (of_bytes 1 fs)
-        (IsIn-left f (refs fs ++ of_bytes 8 fs ++ of_bytes 4 fs) (of_bytes 2 fs) (in-right f (refs fs ++ of_bytes 8 fs) (of_bytes 4 fs) h))
-
-    half : IsIn f (of_bytes 2 fs) → IsIn f (in_layout_order fs)
-    half h =
-        IsIn-left f (refs fs ++ of_bytes 8 fs ++ of_bytes 4 fs ++ of_bytes 2 fs) (of_bytes 1 fs)
-        (in-right f (refs fs ++ of_bytes 8 fs ++ of_bytes 4 fs) (of_bytes 2 fs) h)
-
-    last : IsIn f (of_bytes 1 fs) → IsIn f (in_layout_order fs)
-    last h = in-right f (refs fs ++ of_bytes 8 fs ++ of_bytes 4 fs ++ of_bytes 2 fs) (of_bytes 1 fs) h
-
-    by : (kind : Kind) → f.kind ≡ kind → IsIn f (in_layout_order fs)
-    by Ref e = two (IsIn-left f (refs fs) (of_bytes 8 fs) (in-filter (λ f. is_ref f.kind) fs f there (ap is_ref e)))
-    by Long e = two (in-right f (refs fs) (of_bytes 8 fs) (plain 8 Long e refl))
-    by Int e = four (plain 4 Int e refl)
-    by Char e = half (plain 2 Char e refl)
-    by Short e = half (plain 2 Short e refl)
-    by Boolean e = last (plain 1 Boolean e refl)
-    by Byte e = last (plain 1 Byte e refl)
-
--- each field is placed
-placed : (weak : Bool) (laid : Laid) (fs : List FieldDecl) (f : FieldDecl) → IsIn f fs → (offset : ℕ) × IsIn (placed_at weak f offset) (place_fields weak laid fs).fields
-placed weak laid [] f there = absurd there
-placed weak laid (g ∷ fs) f (inl same) =
-    let offset : ℕ = next_multiple (kind_bytes g.kind) laid.end in (
-      offset,
-      IsIn-place_fields weak (place_field weak laid g) fs (placed_at weak f offset)
-          (subst (λ (d : FieldDecl). IsIn (placed_at weak d offset) (place_field weak laid g).fields) same (IsIn-last (placed_at weak g offset) laid.fields)),
-    )
-placed weak laid (g ∷ fs) f (inr there) = placed weak (place_field weak laid g) fs f there
-
--- an own field is found under its name, at a place of its kind
-own-found : (cs : List Class) (k : ℕ) (f : FieldDecl) → IsClassList cs → k < length cs → IsIn f (own_fields_of cs k)
-    → (at : FieldAt) × (field_named (layout_of cs k) f.name ≡ Some at) × (at.kind ≡ f.kind)
-own-found cs k f formed within there =
-    let c = class-there cs k within in
-    let here : IsIn f c.0.fields = subst (λ (l : List FieldDecl). IsIn f l) (own-is cs k c.0 c.1) there in
-    let weak : Bool = nat_eq k 1 in
-    let p = placed weak (superclass_layout cs c.0.parent) (in_layout_order c.0.fields) f (in-order f c.0.fields here) in
-    let x : Placed = placed_at weak f p.0 in
-    let is : IsIn x (layout_of cs k).fields = subst (λ (l : Laid). IsIn x l.fields) (sym (layout_of-class cs k c.0 formed c.1)) p.1 in
-    (x.at, field_named-own (layout_of cs k) x (formed.fields k) is, refl)
-
 abbrev pub has_name : List ℕ → Pair → Bool
 has_name name e = same_name e.0.name name
 
@@ -233,7 +168,7 @@ pairs-find cs (suc n) k name formed within enough =
     elim (cases_Bool (list_any (λ f. same_name f.name name) fs)) [
       | inl e ↦
           let r = own-yes laid fs name e in
-          let own = own-found cs k r.0 formed within r.1 in
+          let own = own-found cs k r.0 formed r.1 in
           ap (option_map (λ (e : Pair). e.1)) (find-left (has_name name) (own_pairs cs k) rest (with_place laid r.0) r.3)
           ∙ ap (λ (o : Option FieldAt). Some (unwrap_or o no_place)) own.1 ∙ sym own.1 ∙ ap (field_named laid) r.2
       | inr e ↦
@@ -288,7 +223,7 @@ pub record InChain (cs : List Class) (k : ℕ) (e : Pair) : Type 0 where
 own-in : (cs : List Class) (k : ℕ) (f : FieldDecl) → IsClassList cs → k < length cs → IsIn f (own_fields_of cs k) → InChain cs k (with_place (layout_of cs k) f)
 own-in cs k f formed within there =
     let c = class-there cs k within in
-    let own = own-found cs k f formed within there in
+    let own = own-found cs k f formed there in
     let at : own.0 ≡ place_named (layout_of cs k) f.name = ap (λ (o : Option FieldAt). unwrap_or o no_place) (sym own.1) in
     record {
       kind_is = ap (λ (p : FieldAt). p.kind) (sym at) ∙ own.2;
@@ -317,4 +252,4 @@ pairs-in cs (suc n) k e formed within there =
         let parent : slice_get (map (λ (c : Class). c.parent) cs) k ≡ Some (Some p) =
         map-at (λ (d : Class). d.parent) cs k c.0 c.1 ∙ ap (λ (o : Option ℕ). Some o) (sym (parent-is cs k c.0 c.1) ∙ is) in
         let before = rest p (parent-before cs k formed within p is) h in
-        record { kind_is = before.kind_is; place_in = parent-places cs k p e.1 formed parent before.place_in; text_in = before.text_in }
+        record { kind_is = before.kind_is; place_in = superclass-places cs k p e.1 formed parent before.place_in; text_in = before.text_in }

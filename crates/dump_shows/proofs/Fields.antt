@@ -14,7 +14,7 @@ use Rattle.hprof_records.specs.Types as types
 use Rattle.hprof_write.specs.Classes.{field_entry, kind_code}
 use Rattle.hprof_write.specs.Objects.{bits_of, value_bytes, values_bytes}
 use Rattle.hprof_write.specs.Strings.{string_id}
-use Rattle.object_view.specs.Objects.{element, elements_from}
+use Rattle.heap_graph.specs.Places.{element, elements_from}
 use Rattle.object_view.specs.Seen.{value_in}
 use Rattle.object_view.specs.Values.{is_value}
 use Rattle.dump_shows.specs.Reading.{elements_cut, has_text, string_of, value_named, value_read, values_cut}

@@ -3,7 +3,7 @@ use Rattle.std.proofs.Common.{◌≡◌, ◌⊎◌, Bool, true, false, cond, Lis
 use Rattle.std.proofs.lemmas.Bool.{cases_Bool}
 use Rattle.std.specs.List.{find, flat_map}
 use Rattle.class_layout.specs.Placing.{IsIn}
-use Rattle.class_layout.proofs.Places.{IsIn-left}
+use Rattle.class_layout.proofs.Places.{IsIn-left, IsIn-right}
 
 pub map-map : {X Y Z : Type 0} (f : Y → Z) (g : X → Y) (xs : List X) → map f (map g xs) ≡ map (λ x. f (g x)) xs
 map-map f g [] = refl
@@ -72,23 +72,7 @@ module _ {X : Type 0} (p : X → Bool) where
         | inr e ↦ find-no y (xs ++ ys) e ∙ find-right xs ys (sym (find-no y xs e) ∙ h)
       ]
 
-  -- what passes stays
-  pub in-filter : (xs : List X) (x : X) → IsIn x xs → p x ≡ true → IsIn x (filter p xs)
-  in-filter [] x there is = there
-  in-filter (y ∷ xs) x (inl same) is =
-      let e : p y ≡ true = ap p same ∙ is in
-      subst (λ (l : List X). IsIn x l) (sym (filter-yes y xs e)) (inl same)
-  in-filter (y ∷ xs) x (inr there) is =
-      elim (cases_Bool (p y)) [
-        | inl e ↦ subst (λ (l : List X). IsIn x l) (sym (filter-yes y xs e)) (inr (in-filter xs x there is))
-        | inr e ↦ subst (λ (l : List X). IsIn x l) (sym (filter-no y xs e)) (in-filter xs x there is)
-      ]
-
 module _ {X : Type 0} where
-  pub in-right : (x : X) (xs ys : List X) → IsIn x ys → IsIn x (xs ++ ys)
-  in-right x [] ys h = h
-  in-right x (y ∷ xs) ys h = inr (in-right x xs ys h)
-
   pub in-either : (x : X) (xs ys : List X) → IsIn x (xs ++ ys) → IsIn x xs ⊎ IsIn x ys
   in-either x [] ys h = inr h
   in-either x (y ∷ xs) ys (inl e) = inl (inl e)
@@ -97,7 +81,7 @@ module _ {X : Type 0} where
   pub in-flat : {Y : Type 0} (f : Y → List X) (ys : List Y) (y : Y) (x : X) → IsIn y ys → IsIn x (f y) → IsIn x (flat_map f ys)
   in-flat f [] y x there h = absurd there
   in-flat f (z ∷ ys) y x (inl same) h = IsIn-left x (f z) (flat_map f ys) (subst (λ (z : _). IsIn x (f z)) (sym same) h)
-  in-flat f (z ∷ ys) y x (inr there) h = in-right x (f z) (flat_map f ys) (in-flat f ys y x there h)
+  in-flat f (z ∷ ys) y x (inr there) h = IsIn-right x (f z) (flat_map f ys) (in-flat f ys y x there h)
 
   pub flat-in : {Y : Type 0} (f : Y → List X) (ys : List Y) (x : X) → IsIn x (flat_map f ys) → (y : Y) × IsIn y ys × IsIn x (f y)
   flat-in f [] x h = absurd h

@@ -19,7 +19,7 @@ use Rattle.hprof_records.specs.declared.sub_record.SubRecord.{SubRecord}
 use Rattle.hprof_records.specs.declared.sub_record.SubRecord.TheVariants as part
 use Rattle.hprof_records.specs.declared.top_record.TopRecord.{TopRecord}
 use Rattle.hprof_write.proofs.ValuesAt.{length-elements}
-use Rattle.object_view.specs.Objects.{places_of}
+use Rattle.heap_graph.specs.Places.{places_of}
 use Rattle.object_view.specs.Seen.{value_in}
 use Rattle.dump_shows.specs.Reading.{ClassDumped, Dumped, Load, Rooted, field_read, is_id, loads, object_id, objects, string_of}
 use Rattle.dump_shows.specs.Same.{HoldsSame, IsSameSeen}

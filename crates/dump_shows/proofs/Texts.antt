@@ -10,7 +10,7 @@ use Rattle.class_layout.specs.ClassList.{Class}
 use Rattle.class_layout.specs.Names.{same_name}
 use Rattle.class_layout.specs.Placing.{IsIn}
 use Rattle.class_layout.proofs.Lists.{how_many, how_many-append, how_many-none, position-no, position-yes}
-use Rattle.class_layout.proofs.Places.{IsIn-left}
+use Rattle.class_layout.proofs.Places.{IsIn-left, IsIn-right}
 use Rattle.class_layout.proofs.Uniqueness.{names-same, same_name-refl}
 use Rattle.heap_graph.specs.Graph.{Graph}
 use Rattle.hprof_write.specs.Segments.{heap_name, segments}
@@ -21,7 +21,7 @@ use Rattle.object_view.specs.declared.names.Heap.TheVariants.{Image, Zygote, App
 use Rattle.hprof_write.proofs.ValuesAt.{IsIn-slice_get}
 use Rattle.dump_shows.specs.Reading as read
 use Rattle.dump_shows.specs.Shows.{fixed_texts, IsText}
-use Rattle.dump_shows.proofs.ListParts.{filter-no, filter-yes, find-no, find-yes, flat-in, in-either, in-flat, in-right, map-in}
+use Rattle.dump_shows.proofs.ListParts.{filter-no, filter-yes, find-no, find-yes, flat-in, in-either, in-flat, map-in}
 use Rattle.dump_shows.proofs.Segs.{loads-none, segments-none, view-written}
 
 -- texts with their identifiers, the first with this one
@@ -172,10 +172,10 @@ field-text cs k c f h there =
     (in-flat strings.class_texts cs c f.name (IsIn-slice_get cs k c h) (inr (map-in (λ (f : FieldDecl). f.name) c.fields f there)))
 
 pub array-text : (cs : List Class) → IsIn strings.array_name (strings.texts cs)
-array-text cs = in-right strings.array_name (flat_map strings.class_texts cs) (strings.array_name ∷ strings.heap_names) (inl refl)
+array-text cs = IsIn-right strings.array_name (flat_map strings.class_texts cs) (strings.array_name ∷ strings.heap_names) (inl refl)
 
 pub heap-text : (cs : List Class) (heap : Heap) → IsIn (heap_name heap) (strings.texts cs)
-heap-text cs heap = in-right (heap_name heap) (flat_map strings.class_texts cs) (strings.array_name ∷ strings.heap_names) (inr (named heap))
+heap-text cs heap = IsIn-right (heap_name heap) (flat_map strings.class_texts cs) (strings.array_name ∷ strings.heap_names) (inr (named heap))
   where
     named : (heap : Heap) → IsIn (heap_name heap) strings.heap_names
     named Image = inr (inl refl)
@@ -226,7 +226,7 @@ strings-are g table text = (
     same = ap (map (λ (s : ℕ × List ℕ). s.1)) (strings-written (strings.strings g.classes) g table) ∙ numbered-texts 1 (strings.strings g.classes)
 
     to : IsText g text → IsIn text (strings.texts g.classes)
-    to (inl fixed) = in-right text (flat_map strings.class_texts g.classes) fixed_texts fixed
+    to (inl fixed) = IsIn-right text (flat_map strings.class_texts g.classes) fixed_texts fixed
     to (inr c) = IsIn-left text (flat_map strings.class_texts g.classes) fixed_texts (in-flat strings.class_texts g.classes c.0 text c.1 c.2)
 
     from : IsIn text [] ⊎ IsIn text (strings.texts g.classes) → IsText g text

@@ -18,7 +18,8 @@ use Rattle.heap_graph.specs.declared.names.Shape.TheVariants.{Instance, Array}
 use Rattle.heap_graph.specs.Graph.{Graph, Object}
 use Rattle.hprof_records.specs.declared.top_record.TopRecord.{TopRecord}
 use Rattle.hprof_records.specs.Types as types
-use Rattle.object_view.specs.Objects.{elements_from, places_of, IsKnown}
+use Rattle.heap_graph.specs.Places.{elements_from, places_of}
+use Rattle.object_view.specs.Objects.{IsKnown}
 use Rattle.object_view.specs.Seen.{heap_of, value_in}
 use Rattle.object_view.specs.Values.{is_value}
 use Rattle.hprof_write.specs.Classes.{array_class_id, class_id, field_entry, kind_code, loads_from, parent_id}

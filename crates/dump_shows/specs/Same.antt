@@ -5,7 +5,7 @@ use Rattle.class_layout.specs.ClassList.{Class}
 use Rattle.class_layout.specs.Placing.{IsIn}
 use Rattle.heap_graph.specs.Graph.{Graph, Object}
 use Rattle.heap_graph.specs.Values.{held_targets}
-use Rattle.object_view.specs.Objects.{places_of}
+use Rattle.heap_graph.specs.Places.{places_of}
 use Rattle.object_view.specs.Seen.{value_in}
 use Rattle.dump_shows.specs.Shows.{heap_code}
 

@@ -22,7 +22,7 @@ use Rattle.hprof_records.specs.declared.top_record.TopRecord.{TopRecord}
 use Rattle.hprof_records.specs.declared.type_code.TypeCode.{TypeCode}
 use Rattle.hprof_records.specs.declared.type_code.TypeCode.TheVariants as code
 use Rattle.hprof_records.specs.Types.{code_of, value_bytes}
-use Rattle.object_view.specs.Objects.{places_of}
+use Rattle.heap_graph.specs.Places.{places_of}
 use Rattle.object_view.specs.Seen.{value_in, IsShown}
 use Rattle.object_view.specs.Values.{is_value}
 use Rattle.object_view.specs.Words.{array_word, class_word}

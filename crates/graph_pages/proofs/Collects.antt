@@ -1,17 +1,15 @@
 -- A collected graph stands where each kept object stands at its new address with its references turned.
-use Rattle.std.proofs.Common.{◌≡◌, ◌∙◌, ◌⊎◌, ℕ, Bool, true, false, cond, List, [], ◌∷◌, refl, sym, ap, subst, inl, inr, arith, filter, pos, true≢false}
+use Rattle.std.proofs.Common.{◌≡◌, ◌∙◌, ◌⊎◌, ℕ, Bool, true, false, cond, List, [], ◌∷◌, refl, sym, ap, subst, inl, inr, filter, pos, true≢false}
 use Rattle.std.specs.Prelude.{nat_eq, ◌||◌}
-use Rattle.std.specs.List.{AllByRecursion}
 use Rattle.std.proofs.lemmas.Bool.{eq-eqb, eqb-true, cases_Bool}
 use Rattle.class_layout.specs.declared.kind.Kind.{Kind}
-use Rattle.class_layout.specs.declared.kind.Kind.TheVariants.{Ref, Boolean, Byte, Char, Short, Int, Long}
+use Rattle.class_layout.specs.declared.kind.Kind.TheVariants.{Ref}
 use Rattle.class_layout.specs.declared.kind.FieldAt.{FieldAt}
-use Rattle.class_layout.specs.ClassList.{Class, layout_of}
+use Rattle.class_layout.specs.ClassList.{Class}
 use Rattle.class_layout.specs.Kinds.{is_ref}
 use Rattle.class_layout.specs.Placing.{IsIn}
 use Rattle.cow_pages.specs.View.{View}
 use Rattle.heap_graph.specs.declared.names.Shape.{Shape}
-use Rattle.heap_graph.specs.declared.names.Shape.TheVariants.{Instance, Array}
 use Rattle.heap_graph.specs.declared.names.Content.{Content}
 use Rattle.heap_graph.specs.declared.names.Content.TheVariants as content
 use Rattle.heap_graph.specs.declared.names.Stored.{Stored}
@@ -23,27 +21,18 @@ use Rattle.heap_graph.specs.Paths.{numbers}
 use Rattle.heap_graph.proofs.Lists.{any-flat_map, any-map}
 use Rattle.heap_graph.proofs.Kept.{nothing_dangles}
 use Rattle.heap_graph.proofs.Slots.{target_later}
-use Rattle.heap_world.specs.Formed.{AreObjects, AreSlots, FitsKind, HasSlot, HoldsValues, IsFormed}
+use Rattle.heap_graph.specs.Formed.{AreSlots, FitsKind, IsFormed}
 use Rattle.heap_world.proofs.FormedNumbers.{numbers-cleared}
-use Rattle.object_view.specs.Objects.{places_of}
-use Rattle.object_view.proofs.Laid.{element-in, found-in, one-place, ref-kind}
+use Rattle.heap_graph.specs.Places.{places_of}
+use Rattle.heap_graph.proofs.Places.{object-in, one-place, slot-place, value-fits}
+use Rattle.object_view.proofs.Laid.{ref-kind}
 use Rattle.raw_objects.specs.Raws.{Raw, Raws, HoldsRaws, SameRaw}
 use Rattle.raw_objects.specs.References.{address_in}
 use Rattle.object_view.specs.Seen.{seen_value, value_in}
 use Rattle.graph_pages.specs.Holds.{raw_under, HoldsGraph}
 use Rattle.graph_pages.specs.Collected.{keeps, turned_by, AreTurned, Going}
 use Rattle.graph_pages.proofs.Graphs.{raws-graph}
-use Rattle.graph_pages.proofs.Lists.{all-in, any-from, any-to, filter-in, in-filter, in-map, map-in}
-
-pub slots-in : (cs : List Class) (os : List Object) (o : Object) → IsIn o os → AreObjects cs os → AreSlots cs o.shape o.slots
-slots-in cs [] o there h = absurd there
-slots-in cs (p ∷ os) o (inl e) h = subst (λ (q : Object). AreSlots cs q.shape q.slots) e h.1
-slots-in cs (p ∷ os) o (inr there) h = slots-in cs os o there h.2
-
--- a slot of a shape is one of its places
-slot-place : (cs : List Class) (shape : Shape) (at : FieldAt) → HasSlot cs shape at → IsIn at (places_of cs shape)
-slot-place cs (Instance class) at (name, is) = found-in (layout_of cs class).fields name at is
-slot-place cs (Array kind count) at (i, below, is) = subst (λ p. IsIn p (places_of cs (Array kind count))) (sym is) (element-in kind 0 count i (omega arith) (omega arith))
+use Rattle.graph_pages.proofs.Lists.{any-from, any-to, filter-in, in-filter, in-map, map-in}
 
 module _ (cs : List Class) (shape : Shape) (kept : List ℕ) (p : FieldAt) (there : IsIn p (places_of cs shape)) where
   -- what stands in the place is cleared as the place is weak
@@ -64,26 +53,6 @@ module _ (cs : List Class) (shape : Shape) (kept : List ℕ) (p : FieldAt) (ther
           ap (λ b. value_if b (clear_if s.at.weak kept s.value) (value_at (cleared_slots kept ss) p)) e ∙ ap (λ (q : FieldAt). clear_if q.weak kept s.value) same
           ∙ sym (ap (λ b. clear_if p.weak kept (value_if b s.value (value_at ss p))) e)
       by (inr e) rest = ap (λ b. value_if b (clear_if s.at.weak kept s.value) (value_at (cleared_slots kept ss) p)) e ∙ rest ∙ sym (ap (λ b. clear_if p.weak kept (value_if b s.value (value_at ss p))) e)
-
-  -- and suits the place's kind
-  pub value-fits : (ss : List Stored) → AreSlots cs shape ss → AllByRecursion (λ s. FitsKind s.at.kind s.value) ss → FitsKind p.kind (value_at ss p)
-  value-fits [] h fits = by p.kind
-    where
-      by : (kind : Kind) → FitsKind kind (empty_slot (is_ref kind))
-      by Ref = refl
-      by Boolean = refl
-      by Byte = refl
-      by Char = refl
-      by Short = refl
-      by Int = refl
-      by Long = refl
-  value-fits (s ∷ ss) h fits = by (cases_Bool (nat_eq s.at.offset p.offset)) (value-fits ss h.2 fits.1)
-    where
-      by : (nat_eq s.at.offset p.offset ≡ true) ⊎ (nat_eq s.at.offset p.offset ≡ false) → FitsKind p.kind (value_at ss p) → FitsKind p.kind (value_if (nat_eq s.at.offset p.offset) s.value (value_at ss p))
-      by (inl e) rest =
-          let same : s.at ≡ p = one-place cs shape s.at p (slot-place cs shape s.at h.0) there (eqb-true s.at.offset p.offset e) in
-          subst (λ b. FitsKind p.kind (value_if b s.value (value_at ss p))) (sym e) (subst (λ (q : FieldAt). FitsKind q.kind s.value) same fits.0)
-      by (inr e) rest = subst (λ b. FitsKind p.kind (value_if b s.value (value_at ss p))) (sym e) rest
 
 -- what a place holds is a target
 pub held-target : (ss : List Stored) (p : FieldAt) (n : ℕ) → value_at ss p ≡ content.Object n → is_among (targets ss) n ≡ true
@@ -148,8 +117,8 @@ module _ (g : Graph) (formed : IsFormed g) (table next go : ℕ → ℕ) (going 
     shape = refl;
     header = refl;
     values = λ p within.
-        let slots = slots-in g.classes g.objects o o_in formed.objects in
-        let fits = value-fits g.classes o.shape kept p within o.slots slots (all-in HoldsValues g.objects o o_in formed.values) in
+        let slots = (object-in g.classes g.objects o formed.objects o_in).1 in
+        let fits = value-fits g o p formed o_in within in
         let clear = value_at-cleared g.classes o.shape kept p within o.slots slots in
         ap (seen_value next) clear ∙ by p (value_at o.slots p) (is_ref p.kind) refl fits
         (λ n is. formed.closed.slots n (any-flat_map (λ q. targets q.slots) (nat_eq n) g.objects ∙ any-to (λ q. is_among (targets q.slots) n) g.objects o o_in (held-target o.slots p n is)))

@@ -11,7 +11,8 @@ use Rattle.heap_graph.specs.declared.names.Stored.{Stored}
 use Rattle.heap_graph.specs.Graph.{Graph, Object}
 use Rattle.heap_world.specs.Acts.{stored_in, with_slot}
 use Rattle.object_view.specs.Seen.{HasValue}
-use Rattle.object_view.proofs.Laid.{bytes-low, place-within}
+use Rattle.heap_graph.proofs.Places.{bytes-low}
+use Rattle.object_view.proofs.Laid.{place-within}
 use Rattle.address_table.specs.Computed.{table_of, Homes}
 use Rattle.graph_pages.specs.Holds.{HoldsGraph}
 use Rattle.graph_pages.specs.Pages.{PagesHold}

@@ -8,3 +8,4 @@ pub mod Computed
 pub mod Paged
 pub mod Held
 pub mod Named
+pub mod Grown

@@ -1,13 +1,8 @@
 -- What is in a list.
 use Rattle.std.proofs.Common.{◌≡◌, ◌∙◌, ◌⊎◌, Bool, true, false, cond, List, [], ◌∷◌, ◌++◌, refl, sym, ap, subst, inl, inr, map, filter, true≢false}
 use Rattle.std.specs.Prelude.{◌||◌}
-use Rattle.std.specs.List.{list_any, AllByRecursion}
+use Rattle.std.specs.List.{list_any}
 use Rattle.class_layout.specs.Placing.{IsIn}
-
-pub all-in : {X : Type 0} (P : X → Type 0) (xs : List X) (x : X) → IsIn x xs → AllByRecursion P xs → P x
-all-in P [] x there h = absurd there
-all-in P (y ∷ xs) x (inl e) h = subst P e h.0
-all-in P (y ∷ xs) x (inr there) h = all-in P xs x there h.1
 
 pub in-filter : {X : Type 0} (p : X → Bool) (xs : List X) (x : X) → IsIn x (filter p xs) → IsIn x xs × (p x ≡ true)
 in-filter p [] x there = absurd there
@@ -63,3 +58,12 @@ in-append (z ∷ xs) x y (inr there) = elim (in-append xs x y there) [ inl it �
 pub any-same : {X : Type 0} (p q : X → Bool) (xs : List X) → ((x : X) → IsIn x xs → p x ≡ q x) → list_any p xs ≡ list_any q xs
 any-same p q [] same = refl
 any-same p q (x ∷ xs) same = ap (λ b. b || list_any p xs) (same x (inl refl)) ∙ ap (λ b. q x || b) (any-same p q xs (λ y there. same y (inr there)))
+
+pub in-front : {X : Type 0} (xs : List X) (x y : X) → IsIn y xs → IsIn y (xs ++ x ∷ [])
+in-front [] x y there = absurd there
+in-front (z ∷ xs) x y (inl e) = inl e
+in-front (z ∷ xs) x y (inr there) = inr (in-front xs x y there)
+
+pub in-last : {X : Type 0} (xs : List X) (x : X) → IsIn x (xs ++ x ∷ [])
+in-last [] x = inl refl
+in-last (z ∷ xs) x = inr (in-last xs x)

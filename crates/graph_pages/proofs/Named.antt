@@ -1,5 +1,5 @@
 -- The pages of page names.
-use Rattle.std.proofs.Common.{◌≡◌, ◌∙◌, ℕ, ◌+◌, ◌-◌, ◌*◌, ◌<◌, ◌≤◌, true, false, List, [], ◌∷◌, refl, sym, ap, subst, inl, inr, arith, true≢false}
+use Rattle.std.proofs.Common.{◌≡◌, ◌∙◌, ℕ, ◌+◌, ◌-◌, ◌*◌, ◌<◌, ◌≤◌, true, List, [], ◌∷◌, refl, sym, ap, subst, inl, inr, arith, true≢false}
 use Rattle.std.specs.Prelude.{nat_eq, nat_lt, ◌&&◌}
 use Rattle.std.proofs.lemmas.Bool.{and_from, and_parts, cases_lt, eqb-true, le-leb, lt-ltb, ltb-true}
 use Rattle.model_numbers.specs.Numbers.{page_bytes, zygote_base}
@@ -11,19 +11,18 @@ use Rattle.cow_pages.specs.Address.{first_page, is_in, page_count, page_of}
 use Rattle.cow_pages.specs.Memory.{is_mapped, Memory}
 use Rattle.heap_graph.specs.declared.names.Place.{Place}
 use Rattle.heap_graph.specs.declared.names.Place.TheVariants as place
-use Rattle.heap_graph.specs.declared.names.Shape.{Shape}
-use Rattle.heap_graph.specs.declared.names.Shape.TheVariants as shape
 use Rattle.heap_graph.specs.Graph.{Graph, Object, image_fill, image_size, zygote_fill}
-use Rattle.heap_graph.specs.Sizes.{is_too_large, parts_for, size_in, unrounded}
+use Rattle.heap_graph.specs.Sizes.{parts_for, size_in, unrounded}
 use Rattle.heap_graph.specs.Table.{IsPlacedAt, IsSlot}
 use Rattle.heap_graph.proofs.Sizes.{not-large}
 use Rattle.heap_graph.proofs.Totals.{total}
 use Rattle.heap_world.specs.declared.names.PageName.{PageName}
 use Rattle.heap_world.specs.declared.names.PageName.TheVariants.{Image, Zygote, Large}
-use Rattle.heap_world.specs.Formed.{AreObjects, FillImage, FillZygote, IsBehindImage, IsBehindZygote, IsFormed, IsShape, zygote_next}
+use Rattle.heap_graph.specs.Formed.{FillImage, FillZygote, IsBehindImage, IsBehindZygote, IsFormed, zygote_next}
 use Rattle.heap_world.proofs.Placed.{fill-is, top-is, zygote_top}
 use Rattle.object_view.proofs.Laid.{size-bounds}
 use Rattle.address_table.specs.Computed.{table_of, Homes, HouseAll}
+use Rattle.address_table.proofs.Beside.{not-too-large, shape-in}
 use Rattle.address_table.proofs.Fitting.{fits}
 use Rattle.world_laws.specs.Named.{has_page, has_slot, is_named}
 use Rattle.graph_pages.specs.Pages.{has_bytes_in, page_named, PagesHold}
@@ -84,15 +83,6 @@ slotted (place.Zygote spot) address is h = absurd (true≢false (sym is))
 slotted place.Young address is h = absurd (true≢false (sym is))
 slotted place.Large address is h = h
 slotted place.Promoted address is h = h
-
-not-too-large : (cs : List Class) (shape : Shape) → IsShape cs shape → is_too_large cs shape ≡ false
-not-too-large cs (shape.Instance class) h = h.1
-not-too-large cs (shape.Array kind count) h = h
-
-shape-in : (cs : List Class) (os : List Object) (o : Object) → IsIn o os → AreObjects cs os → IsShape cs o.shape
-shape-in cs [] o there h = absurd there
-shape-in cs (p ∷ os) o (inl e) h = subst (λ (q : Object). IsShape cs q.shape) e h.0
-shape-in cs (p ∷ os) o (inr there) h = shape-in cs os o there h.2
 
 module _ (homes : Homes) (g : Graph) (formed : IsFormed g) (house : HouseAll homes g) where
   abbrev table : ℕ → ℕ

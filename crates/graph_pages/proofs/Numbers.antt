@@ -1,7 +1,7 @@
 -- Rising numbers differ.
 use Rattle.std.proofs.Common.{◌≡◌, ◌∙◌, ℕ, ◌+◌, List, [], ◌∷◌, sym, ap, inl, inr, arith}
 use Rattle.heap_graph.specs.Graph.{Object}
-use Rattle.heap_world.specs.Formed.{AreRising}
+use Rattle.heap_graph.specs.Formed.{AreRising}
 use Rattle.address_table.proofs.Behind.{rising-in}
 use Rattle.graph_pages.proofs.Graphs.{NumbersDiffer}
 

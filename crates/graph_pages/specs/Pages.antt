@@ -1,5 +1,5 @@
 -- Which pages of a table are mapped for a graph, and a graph held by them.
-use Rattle.std.specs.Prelude.{◌≡◌, ℕ, ◌+◌, ◌-◌, Bool, true, ◌&&◌, nat_le, List, [], ◌∷◌, ◌++◌}
+use Rattle.std.specs.Prelude.{◌≡◌, ℕ, ◌+◌, ◌-◌, Bool, true, ◌&&◌, nat_le, List, []}
 use Rattle.std.specs.List.{list_any}
 use Rattle.class_layout.specs.ClassList.{Class}
 use Rattle.cow_pages.specs.declared.address.Window.{Window}
@@ -7,12 +7,15 @@ use Rattle.cow_pages.specs.declared.address.Window.TheVariants as window
 use Rattle.cow_pages.specs.Address.{first_page, is_in, page_of}
 use Rattle.cow_pages.specs.Memory.{is_mapped, Memory}
 use Rattle.cow_pages.specs.View.{view_of}
+use Rattle.heap_graph.specs.declared.names.Place.{Place}
+use Rattle.heap_graph.specs.declared.names.Shape.{Shape}
+use Rattle.heap_graph.specs.Allocation.{with_object}
 use Rattle.heap_graph.specs.Graph.{Graph, Object}
 use Rattle.heap_graph.specs.Sizes.{size_in}
 use Rattle.heap_world.specs.declared.names.PageName.{PageName}
 use Rattle.heap_world.specs.declared.names.PageName.TheVariants.{Image, Zygote, Large}
 use Rattle.address_table.specs.Computed.{table_of, Homes}
-use Rattle.graph_pages.specs.Holds.{HoldsGraph, IsBeside, SameTable}
+use Rattle.graph_pages.specs.Holds.{HoldsGraph}
 
 -- the object has bytes in the page
 abbrev pub has_bytes_in : List Class → (ℕ → ℕ) → ℕ → Object → Bool
@@ -27,17 +30,10 @@ pub record PagesHold (m : Memory) (t : ℕ) (homes : Homes) (g : Graph) : Type 0
   pub objects : HoldsGraph g.classes (view_of m t) (table_of homes g) g.objects
   pub pages : (w : Window) → MapsWindow m t w g.classes (table_of homes g) g.objects
 
--- the graph with one object more, which is its newest
-abbrev pub with_object : Graph → Object → Graph
-with_object g o = record g { objects = g.objects ++ o ∷ [] }
-
--- there is room for a new object at its computed address: its pages are mapped too, no byte of it is another object's, and
--- the others stay where they are
-pub record HasRoomFor (m : Memory) (t : ℕ) (homes next : Homes) (g : Graph) (o : Object) : Type 0 where
+-- there is room for a new object: the others are held, and its pages are mapped too
+pub record HasRoomFor (m : Memory) (t : ℕ) (homes : Homes) (g : Graph) (shape : Shape) (place : Place) : Type 0 where
   pub objects : HoldsGraph g.classes (view_of m t) (table_of homes g) g.objects
-  pub stays : SameTable (table_of homes g) (table_of next (with_object g o)) g.objects
-  pub beside : IsBeside g.classes (table_of homes g) g.objects (table_of next (with_object g o) o.number) (size_in g.classes o.shape)
-  pub pages : (w : Window) → MapsWindow m t w g.classes (table_of next (with_object g o)) (with_object g o).objects
+  pub pages : (w : Window) → MapsWindow m t w g.classes (table_of homes (with_object g shape [] place)) (with_object g shape [] place).objects
 
 -- the page of a page name
 abbrev pub page_named : (ℕ → ℕ) → PageName → ℕ

@@ -1,5 +1,5 @@
 //! Laws above the definitions: when memory holds a graph, and when it holds the graph after a step.
-ghost use Rattle.std.specs.Prelude.{◌≡◌, ◌≢◌, ◌↔◌, ◌||◌, ◌++◌, ◌∷◌, [], ℕ, ◌+◌, ◌<◌, true, IsTrue, List, ℤ};
+ghost use Rattle.std.specs.Prelude.{◌≡◌, ◌↔◌, ◌||◌, ◌++◌, ◌∷◌, [], ℕ, ◌+◌, ◌<◌, true, IsTrue, List, ℤ};
 ghost use Rattle.class_layout.specs.declared.kind.Kind.{Kind};
 ghost use Rattle.class_layout.specs.ClassList.{Class};
 ghost use Rattle.class_layout.specs.Placing.{IsIn};
@@ -8,11 +8,14 @@ ghost use Rattle.cow_pages.specs.Address.{page_of};
 ghost use Rattle.cow_pages.specs.Memory.{is_mapped, Memory};
 ghost use Rattle.cow_pages.specs.View.{View};
 ghost use Rattle.heap_graph.specs.declared.names.Stored.{Stored};
+ghost use Rattle.heap_graph.specs.declared.names.Place.{Place};
+ghost use Rattle.heap_graph.specs.declared.names.Shape.{Shape};
+ghost use Rattle.heap_graph.specs.Allocation.{with_object};
 ghost use Rattle.heap_graph.specs.Collection.{collect};
 ghost use Rattle.heap_graph.specs.Graph.{Graph, Object};
 ghost use Rattle.heap_graph.specs.Sizes.{size_in};
 ghost use Rattle.heap_world.specs.Acts.{stored_in, with_slot};
-ghost use Rattle.heap_world.specs.Formed.{IsFormed};
+ghost use Rattle.heap_graph.specs.Formed.{IsFormed};
 ghost use Rattle.object_view.specs.Changes.{ChangesWithin, PutsNumber};
 ghost use Rattle.object_view.specs.Objects.{IsKnown, IsPlace};
 ghost use Rattle.object_view.specs.Seen.{seen_value};
@@ -21,7 +24,7 @@ ghost use Rattle.raw_objects.specs.Raws.{new_raw, HoldsRaws, Raws, StandsRaw};
 ghost use Rattle.address_table.specs.Computed.{table_of, Homes, HouseAll};
 ghost use Rattle.graph_pages.specs.Collected.{AreTurned, Going};
 ghost use Rattle.graph_pages.specs.Holds.{raws_under, AreAmong, HoldsGraph, IsBeside, SameTable, TellsApart};
-ghost use Rattle.graph_pages.specs.Pages.{has_bytes_in, page_named, with_object, MapsWindow, PagesHold};
+ghost use Rattle.graph_pages.specs.Pages.{has_bytes_in, page_named, MapsWindow, PagesHold};
 ghost use Rattle.world_laws.specs.Named.{is_named};
 ghost use Rattle.heap_world.specs.declared.names.PageName.{PageName};
 
@@ -63,7 +66,13 @@ pub fn collected_graphs_stand()
 /// A store moves no object, and a new object moves none of the others.
 pub fn computed_addresses_stay()
     ensures stored { (homes : Homes) (g : Graph) (n k : ℕ) (s : Stored) → table_of homes (with_slot g n s) k ≡ table_of homes g k }
-    ensures grown { (homes : Homes) (g : Graph) (o : Object) (k : ℕ) → k ≢ o.number → table_of homes (with_object g o) k ≡ table_of homes g k }
+    ensures grown { (homes : Homes) (g : Graph) (shape : Shape) (slots : List Stored) (place : Place) → IsFormed g → SameTable (table_of homes g) (table_of homes (with_object g shape slots place)) g.objects }
+{}
+
+/// A new object lies beside the others, where the graph with it is formed and housed.
+pub fn new_objects_lie_beside()
+    ensures { (homes : Homes) (g : Graph) (shape : Shape) (slots : List Stored) (place : Place) → IsFormed g → IsFormed (with_object g shape slots place) → HouseAll homes (with_object g shape slots place)
+        → IsBeside g.classes (table_of homes g) g.objects (table_of homes (with_object g shape slots place) g.next) (size_in g.classes shape) }
 {}
 
 /// An object has bytes in exactly the pages in which one of its bytes lies.

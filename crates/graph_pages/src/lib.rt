@@ -7,7 +7,7 @@ mod steps;
 
 pub use laws::{
     addresses_differ, collected_graphs_stand, computed_addresses_stay, graphs_are_raw_objects,
-    grown_graphs_stand, names_have_pages, pages_follow_objects, pages_have_bytes,
-    stored_graphs_stand,
+    grown_graphs_stand, names_have_pages, new_objects_lie_beside, pages_follow_objects,
+    pages_have_bytes, stored_graphs_stand,
 };
 pub use steps::{add_to_graph, store_in_graph};

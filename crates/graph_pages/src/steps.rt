@@ -6,17 +6,19 @@ ghost use Rattle.cow_pages.specs.Address.{page_of};
 ghost use Rattle.cow_pages.specs.Memory.{HasOneSharer, IsSound};
 ghost use Rattle.cow_pages.specs.View.{view_of};
 ghost use Rattle.heap_graph.specs.declared.names.Content.{Content};
+ghost use Rattle.heap_graph.specs.declared.names.Place.{Place};
+ghost use Rattle.heap_graph.specs.Allocation.{with_object};
 ghost use Rattle.heap_graph.specs.Graph.{Graph, Object};
 ghost use Rattle.heap_graph.specs.Sizes.{size_in};
 ghost use Rattle.heap_world.specs.Acts.{with_slot};
-ghost use Rattle.heap_world.specs.Formed.{IsFormed};
+ghost use Rattle.heap_graph.specs.Formed.{IsFormed};
 ghost use Rattle.object_view.specs.Changes.{pages_in, AreAlone, AreWritten};
 ghost use Rattle.object_view.specs.Objects.{IsKnown, IsSpace};
 ghost use Rattle.object_view.specs.Seen.{seen_value, HasValue};
 ghost use Rattle.object_view.specs.Values.{is_value};
 ghost use Rattle.raw_objects.specs.Keeps.{Covers, Keeps};
-ghost use Rattle.address_table.specs.Computed.{table_of, Homes};
-ghost use Rattle.graph_pages.specs.Pages.{with_object, HasRoomFor, PagesHold};
+ghost use Rattle.address_table.specs.Computed.{table_of, Homes, HouseAll};
+ghost use Rattle.graph_pages.specs.Pages.{HasRoomFor, PagesHold};
 
 use class_layout::{Classes, Kind};
 use cow_pages::{Addr, Frames, TableNo};
@@ -61,10 +63,10 @@ pub fn add_to_graph(
     requires known { IsKnown classes.now shape }
     requires number { (1 ≤ number) × (number < number_limit) }
     requires space { IsSpace (view_of frames.old t.0) at.0 (size_in classes.now shape) }
-    ensures held { OnOk result ((g : Graph) (homes next : Homes) (o : Object) → IsFormed g → g.classes ≡ classes.now → HasRoomFor frames.old t.0 homes next g o
-        → o.number ≡ number → o.shape ≡ shape → o.slots ≡ [] → table_of next (with_object g o) o.number ≡ at.0 → PagesHold frames.new t.0 next (with_object g o)) }
-    ensures err { OnErr result ((g : Graph) (homes next : Homes) (o : Object) → IsFormed g → g.classes ≡ classes.now → HasRoomFor frames.old t.0 homes next g o
-        → o.shape ≡ shape → table_of next (with_object g o) o.number ≡ at.0 → HasRoomFor frames.new t.0 homes next g o) }
+    ensures held { OnOk result ((g : Graph) (homes : Homes) (place : Place) → IsFormed g → IsFormed (with_object g shape [] place) → HouseAll homes (with_object g shape [] place) → g.classes ≡ classes.now
+        → HasRoomFor frames.old t.0 homes g shape place → g.next ≡ number → table_of homes (with_object g shape [] place) g.next ≡ at.0 → PagesHold frames.new t.0 homes (with_object g shape [] place)) }
+    ensures err { OnErr result ((g : Graph) (homes : Homes) (place : Place) → IsFormed g → IsFormed (with_object g shape [] place) → HouseAll homes (with_object g shape [] place) → g.classes ≡ classes.now
+        → HasRoomFor frames.old t.0 homes g shape place → table_of homes (with_object g shape [] place) g.next ≡ at.0 → HasRoomFor frames.new t.0 homes g shape place) }
     ensures keeps { (may : ℕ → Bool) → Covers may at.0 (size_in classes.now shape) → Keeps frames.old frames.new t.0 may }
     ensures written { OnOk result (AreWritten frames.new t.0 (page_of at.0) (pages_in at.0 (at.0 + size_in classes.now shape))) }
     ensures reads { frames.new.reads ≡ frames.old.reads }

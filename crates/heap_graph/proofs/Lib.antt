@@ -3,6 +3,7 @@ pub mod LaidOut
 pub mod Lists
 pub mod Packing
 pub mod Paths
+pub mod Places
 pub mod Reached
 pub mod Sizes
 pub mod Slots

@@ -2,9 +2,11 @@ pub mod Allocation
 pub mod Collection
 pub mod Examples
 pub mod Fork
+pub mod Formed
 pub mod Graph
 pub mod Packing
 pub mod Paths
+pub mod Places
 pub mod Reach
 pub mod Sizes
 pub mod Table

@@ -1,11 +1,19 @@
 //! Laws above the definitions: what they say, in other words.
 ghost use Rattle.std.specs.Prelude.{◌≡◌, ◌⊎◌, ◌↔◌, ◌≤◌, ℕ, List, true};
 ghost use Rattle.std.specs.List.{AllByRecursion};
+ghost use Rattle.class_layout.specs.ClassList.{Class, IsClassList};
+ghost use Rattle.class_layout.specs.declared.kind.FieldAt.{FieldAt};
+ghost use Rattle.class_layout.specs.Placing.{IsIn};
+ghost use Rattle.heap_graph.specs.declared.names.Shape.{Shape};
+ghost use Rattle.heap_graph.specs.declared.names.Stored.{Stored};
 ghost use Rattle.heap_graph.specs.Collection.{collect, is_kept};
+ghost use Rattle.heap_graph.specs.Formed.{FitsKind, HasSlot, IsFormed};
 ghost use Rattle.heap_graph.specs.Graph.{Graph, Object, is_immune};
 ghost use Rattle.heap_graph.specs.Packing.{costs, places_from, used, young_objects, young_sizes};
 ghost use Rattle.heap_graph.specs.Paths.{ArePacked, FitRegions, FitsRegion, IsClosed, IsReached, LeadsTo};
+ghost use Rattle.heap_graph.specs.Places.{places_of};
 ghost use Rattle.heap_graph.specs.Reach.{Node, is_among, reached, reached_from};
+ghost use Rattle.heap_graph.specs.Values.{value_at};
 
 /// Reaching by rounds is a path of strong slots, among nodes and among the objects of a graph.
 pub fn reaching_is_a_path()
@@ -46,4 +54,22 @@ pub fn collecting_costs_no_more()
 /// A collection doesn't raise the regions used.
 pub fn collecting_uses_no_more()
     ensures { (g : Graph) → used (collect g) ≤ used g }
+{}
+
+/// The places of a shape are its slots: each slot is a place, and among the classes that stand each place is a slot. What
+/// was stored to an object of a formed graph was stored to a place of its shape.
+pub fn places_are_slots()
+    ensures slot { (cs : List Class) (shape : Shape) (at : FieldAt) → HasSlot cs shape at → IsIn at (places_of cs shape) }
+    ensures place { (cs : List Class) (shape : Shape) (at : FieldAt) → IsClassList cs → IsIn at (places_of cs shape) → HasSlot cs shape at }
+    ensures stored { (g : Graph) (o : Object) (s : Stored) → IsFormed g → IsIn o g.objects → IsIn s o.slots → IsIn s.at (places_of g.classes o.shape) }
+{}
+
+/// Two places of a shape have two offsets.
+pub fn places_are_apart()
+    ensures { (cs : List Class) (shape : Shape) (p q : FieldAt) → IsIn p (places_of cs shape) → IsIn q (places_of cs shape) → p.offset ≡ q.offset → p ≡ q }
+{}
+
+/// What stands at a place of an object of a formed graph is of the place's kind.
+pub fn values_fit_their_places()
+    ensures { (g : Graph) (o : Object) (at : FieldAt) → IsFormed g → IsIn o g.objects → IsIn at (places_of g.classes o.shape) → FitsKind at.kind (value_at o.slots at) }
 {}

@@ -16,7 +16,7 @@ use Rattle.heap_graph.specs.Graph.{Graph, Object, image_fill, image_size, is_you
 use Rattle.heap_graph.specs.Packing.{after, cost, end_from, places_from, young_sizes}
 use Rattle.heap_graph.specs.Paths.{ArePacked, FitsRegion}
 use Rattle.heap_graph.specs.Sizes.{is_too_large, parts_for, unrounded}
-use Rattle.heap_world.specs.Formed.{IsFormed, AreObjects, FillZygote, IsBehindZygote, IsShape, SuitsShape, zygote_next}
+use Rattle.heap_graph.specs.Formed.{IsFormed, AreObjects, FillZygote, IsBehindZygote, IsShape, SuitsShape, zygote_next}
 use Rattle.heap_world.specs.declared.names.PageName.{PageName}
 use Rattle.heap_world.specs.declared.names.PageName.TheVariants.{Image, Zygote, Large}
 use Rattle.heap_world.specs.Pages.{count_from, image_pages, is_touched, large_pages, pages_if_promoted, promoted_pages, same_page, standing_pages, zygote_pages}
@@ -117,7 +117,7 @@ promoted-le g formed =
     omega (arith, pages-le g.classes g.objects, costs-is g, formed.regions, formed.budget)
 
 -- pages are the same where the test says so
-page-same : (a b : PageName) → same_page a b ≡ true → a ≡ b
+pub page-same : (a b : PageName) → same_page a b ≡ true → a ≡ b
 page-same (Image j) (Image k) e = ap Image (eqb-true j k e)
 page-same (Image j) (Zygote k) e = cc
 page-same (Image j) (Large n k) e = cc

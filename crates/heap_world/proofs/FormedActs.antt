@@ -17,7 +17,8 @@ use Rattle.heap_world.specs.declared.command.Verb.TheVariants as verb
 use Rattle.heap_world.specs.declared.reply.Refusal.{Refusal}
 use Rattle.heap_world.specs.Acts.{act, after_define, store_effect, with_slot, store, set_field, put_element, get_field, get_element, copy_root, load_slot, load_field, load_element, drop_held, show_root, seal_if, gc_if, fork_collected, fork_part, dump_counted, dump_if}
 use Rattle.heap_world.specs.Effect.{Effect, effect_or}
-use Rattle.heap_world.specs.Formed.{IsFormed, FitsKind, HasSlot, HasFewFields}
+use Rattle.heap_graph.specs.Formed.{IsFormed, FitsKind, HasSlot}
+use Rattle.heap_world.specs.Commands.{HasFewFields}
 use Rattle.heap_world.specs.Part.{Part}
 use Rattle.heap_world.specs.Slots.{◌>>=◌, slot_named, slot_indexed, held_by_root, object_held, named_by, stored_value, only_reference}
 use Rattle.heap_world.proofs.FormedAims.{Aims, RootsAim, closed_roots, closed_objects, roots_aim-drop}

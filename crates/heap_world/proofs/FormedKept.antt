@@ -23,7 +23,7 @@ use Rattle.heap_graph.specs.Values.{slot_of}
 use Rattle.heap_graph.proofs.Kept.{nothing_dangles}
 use Rattle.heap_graph.proofs.Packing.{used_no_more}
 use Rattle.heap_world.specs.Acts.{with_slot, root_written}
-use Rattle.heap_world.specs.Formed.{IsFormed, AreObjects, AreRising, AreSlots, FitsKind, HasSlot, HoldsValues, IsShape}
+use Rattle.heap_graph.specs.Formed.{IsFormed, AreObjects, AreRising, AreSlots, FitsKind, HasSlot, HoldsValues, IsShape}
 use Rattle.heap_world.proofs.FormedAims.{Aims, RootsAim, SlotsAim, ObjectsAim, AreIn, closed_roots, closed_objects, closed_from, roots_aim-more, slots_aim-more, objects_aim-more, roots_aim-write, objects_aim-push}
 use Rattle.heap_world.proofs.FormedDefine.{IsGrown}
 use Rattle.heap_world.proofs.FormedNumbers.{rising-same, rising-filter, rising-push, numbers-stored_in, numbers-cleared, numbers-promoted, in_pushed, last_pushed}

@@ -25,7 +25,7 @@ use Rattle.heap_graph.proofs.Kept.{nothing_dangles}
 use Rattle.heap_world.specs.declared.reply.Refusal.{Refusal}
 use Rattle.heap_world.specs.Acts.{root_written, part_after, after_make, make_numbered, make_slots, make_sized, make_shape, new_of_class, referent_at, make_weak}
 use Rattle.heap_world.specs.Effect.{Effect}
-use Rattle.heap_world.specs.Formed.{IsFormed, IsShape, HasSlot, AreSlots, SuitsShape, turn}
+use Rattle.heap_graph.specs.Formed.{IsFormed, IsShape, HasSlot, AreSlots, SuitsShape, turn}
 use Rattle.heap_world.specs.Part.{Part}
 use Rattle.heap_world.specs.Slots.{held_by_root}
 use Rattle.heap_world.proofs.FormedAims.{Aims, SlotsAim, closed_roots}

@@ -10,7 +10,7 @@ use Rattle.heap_graph.specs.Graph.{Object, size_of_object}
 use Rattle.heap_graph.specs.Paths.{numbers}
 use Rattle.heap_graph.specs.Reach.{is_among}
 use Rattle.heap_world.specs.Acts.{stored_in_if, stored_in}
-use Rattle.heap_world.specs.Formed.{AreRising}
+use Rattle.heap_graph.specs.Formed.{AreRising}
 use Rattle.heap_world.proofs.FormedAims.{AreIn}
 
 -- the numbers alone rise

@@ -16,7 +16,7 @@ use Rattle.heap_graph.specs.Fork.{promoted_from, next_spot}
 use Rattle.heap_graph.specs.Graph.{Object, size_of_object}
 use Rattle.heap_graph.specs.Values.{stored_if, with_stored}
 use Rattle.heap_world.specs.Acts.{stored_in_if, stored_in}
-use Rattle.heap_world.specs.Formed.{AreRising, IsShape, HasSlot, AreSlots, AreObjects}
+use Rattle.heap_graph.specs.Formed.{AreRising, IsShape, HasSlot, AreSlots, AreObjects}
 use Rattle.heap_world.proofs.FormedNumbers.{stored_in-below}
 use Rattle.heap_world.proofs.FormedAims.{Aims, SlotsAim, ObjectsAim}
 

@@ -22,7 +22,7 @@ use Rattle.heap_graph.specs.declared.names.Stored.{Stored}
 use Rattle.heap_graph.specs.Graph.{Object, Graph, object_at, root_at}
 use Rattle.heap_graph.specs.Values.{slot_of, held_of, empty_slot, value_if, value_at}
 use Rattle.heap_world.specs.declared.reply.Refusal.{Refusal}
-use Rattle.heap_world.specs.Formed.{HasSlot}
+use Rattle.heap_graph.specs.Formed.{HasSlot}
 use Rattle.heap_world.specs.Slots.{◌>>=◌, slot_named, slot_indexed, field_or_refusal, element_if, root_or_refusal, held_by_root, object_or_refusal, object_held, named_by, number_if_fits, reference_if, stored_value, only_reference}
 use Rattle.heap_world.proofs.FormedAims.{Aims, RootsAim, SlotsAim, ObjectsAim}
 

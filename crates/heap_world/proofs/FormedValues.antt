@@ -20,7 +20,7 @@ use Rattle.heap_graph.specs.Reach.{is_among}
 use Rattle.heap_graph.specs.Values.{slot_of, stored_if, with_stored}
 use Rattle.heap_world.specs.declared.reply.Refusal.{Refusal}
 use Rattle.heap_world.specs.Acts.{stored_in, stored_in_if}
-use Rattle.heap_world.specs.Formed.{FitsKind, HoldsValues}
+use Rattle.heap_graph.specs.Formed.{FitsKind, HoldsValues}
 use Rattle.heap_world.specs.Slots.{number_if_fits, reference_if, stored_value}
 use Rattle.heap_world.proofs.PlacedFilter.{all-filter}
 use Rattle.std.proofs.Common.{Result, Ok, Err, IfOk}

@@ -18,7 +18,7 @@ use Rattle.heap_world.specs.declared.names.Card.{Card}
 use Rattle.heap_world.specs.declared.names.Card.TheVariants as card
 use Rattle.heap_world.specs.Acts.{stored_in, stored_in_if, with_slot}
 use Rattle.heap_world.specs.Cards.{add_card, add_card_if, add_cards, cards_if, cards_in, is_card_among, is_outward, loose_if, object_cards, outward_cards, same_card, slot_cards}
-use Rattle.heap_world.specs.Formed.{AreRising}
+use Rattle.heap_graph.specs.Formed.{AreRising}
 use Rattle.heap_world.proofs.FormedAims.{Aims, ObjectsAim, SlotsAim}
 use Rattle.heap_world.proofs.FormedNumbers.{stored_in-below}
 

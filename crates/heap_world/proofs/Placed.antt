@@ -8,7 +8,7 @@ use Rattle.heap_graph.specs.declared.names.Place.TheVariants as place
 use Rattle.heap_graph.specs.Graph.{Graph, Object, greatest, image_fill, image_size, is_young, size_of_object, zygote_end}
 use Rattle.heap_graph.specs.Packing.{after, cost, costs, end_from, used}
 use Rattle.heap_graph.specs.Sizes.{parts_for}
-use Rattle.heap_world.specs.Formed.{IsFormed, AreInTurn, FillImage, FillZygote, IsBehindZygote, SuitsShape, is_in_image, zygote_next}
+use Rattle.heap_graph.specs.Formed.{IsFormed, AreInTurn, FillImage, FillZygote, IsBehindZygote, SuitsShape, is_in_image, zygote_next}
 use Rattle.heap_graph.proofs.Totals.{total, sum-total}
 
 -- where the young objects end, behind so many bytes

@@ -8,7 +8,7 @@ use Rattle.heap_graph.specs.declared.names.Place.TheVariants as place
 use Rattle.heap_graph.specs.Graph.{Object, image_size, is_immune}
 use Rattle.heap_graph.specs.Packing.{cost}
 use Rattle.heap_graph.specs.Sizes.{parts_for}
-use Rattle.heap_world.specs.Formed.{AreInTurn, FillImage, FillZygote, SuitsShape, turn, zygote_next}
+use Rattle.heap_graph.specs.Formed.{AreInTurn, FillImage, FillZygote, SuitsShape, turn, zygote_next}
 use Rattle.heap_world.specs.Pages.{pages_if_promoted}
 use Rattle.heap_world.proofs.Placed.{IsPlaced, young_end, zygote_top}
 use Rattle.heap_graph.proofs.Totals.{total-filter_le}

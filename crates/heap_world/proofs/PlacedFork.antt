@@ -10,7 +10,7 @@ use Rattle.heap_graph.specs.declared.names.Place.TheVariants as place
 use Rattle.heap_graph.specs.Fork.{next_spot, promoted_from, promoted_place}
 use Rattle.heap_graph.specs.Graph.{Object, image_size, is_young, size_of_object}
 use Rattle.heap_graph.specs.Packing.{cost}
-use Rattle.heap_world.specs.Formed.{AreInTurn, FillImage, FillZygote, IsBehindImage, IsBehindZygote, SuitsShape, turn, zygote_next}
+use Rattle.heap_graph.specs.Formed.{AreInTurn, FillImage, FillZygote, IsBehindImage, IsBehindZygote, SuitsShape, turn, zygote_next}
 use Rattle.heap_world.proofs.Placed.{IsPlaced, young_end, young_next, zygote_top}
 use Rattle.heap_graph.proofs.Totals.{total, total-promoted}
 
@@ -67,7 +67,7 @@ module _ (cs : List Class) where
       by place.Promoted two rest = absurd (omega (arith, two))
 
   -- objects that are promoted behind all of the zygote window
-  zygote-promoted : (bytes at least : ℕ) (os : List Object) → AreInTurn least os → FillZygote cs bytes os → at ≡ next_multiple page_bytes (zygote_top cs bytes os) → FillZygote cs bytes (promoted_from cs at os)
+  pub zygote-promoted : (bytes at least : ℕ) (os : List Object) → AreInTurn least os → FillZygote cs bytes os → at ≡ next_multiple page_bytes (zygote_top cs bytes os) → FillZygote cs bytes (promoted_from cs at os)
   zygote-promoted bytes at least [] turns h e = tt
   zygote-promoted bytes at least (o ∷ os) turns h e = by o.place turns.1 h.0 h.1 e (λ b fill e. zygote-promoted b at (turn o.place) os turns.1 fill e)
     where
@@ -100,7 +100,7 @@ module _ (cs : List Class) where
       by place.Promoted rest = rest
 
   -- what is promoted takes no more than its bytes
-  top-promoted : (bytes at : ℕ) (os : List Object) → zygote_top cs bytes (promoted_from cs at os) ≤ max (zygote_top cs bytes os) (at + total (λ o. young_size cs o o.place) os)
+  pub top-promoted : (bytes at : ℕ) (os : List Object) → zygote_top cs bytes (promoted_from cs at os) ≤ max (zygote_top cs bytes os) (at + total (λ o. young_size cs o o.place) os)
   top-promoted bytes at [] = omega arith
   top-promoted bytes at (o ∷ os) = by o.place (λ b a. top-promoted b a os)
     where

@@ -8,7 +8,7 @@ use Rattle.heap_graph.specs.declared.names.Place.TheVariants as place
 use Rattle.heap_graph.specs.Graph.{Object, image_size, size_of_object}
 use Rattle.heap_graph.specs.Packing.{cost}
 use Rattle.heap_graph.specs.Sizes.{parts_for}
-use Rattle.heap_world.specs.Formed.{AreInTurn, FillImage, FillZygote, IsBehindImage, IsBehindZygote, SuitsShape, is_in_image, turn, zygote_next}
+use Rattle.heap_graph.specs.Formed.{AreInTurn, FillImage, FillZygote, IsBehindImage, IsBehindZygote, SuitsShape, is_in_image, turn, zygote_next}
 use Rattle.heap_graph.proofs.LaidOut.{all-push}
 use Rattle.heap_world.proofs.Placed.{IsPlaced, young_end, young_next, zygote_top}
 use Rattle.heap_graph.proofs.Totals.{total, total-push}

@@ -17,7 +17,7 @@ use Rattle.heap_graph.specs.Sizes.{is_large, is_primitive_array, parts_for, unro
 use Rattle.heap_world.specs.declared.names.PageName.TheVariants.{Large}
 use Rattle.heap_world.specs.Acts.{stored_in, stored_in_if}
 use Rattle.heap_world.specs.Pages.{count_from, large_pages, pages_if_promoted}
-use Rattle.heap_world.specs.Formed.{AreInTurn, AreObjects, FillImage, FillZygote, IsBehindImage, IsBehindZygote, IsShape, SuitsShape, is_in_image, turn, zygote_next}
+use Rattle.heap_graph.specs.Formed.{AreInTurn, AreObjects, FillImage, FillZygote, IsBehindImage, IsBehindZygote, IsShape, SuitsShape, is_in_image, turn, zygote_next}
 use Rattle.heap_world.proofs.Placed.{IsPlaced, young_end, young_next, zygote_top}
 use Rattle.heap_graph.proofs.Totals.{total}
 

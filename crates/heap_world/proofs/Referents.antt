@@ -11,7 +11,7 @@ use Rattle.heap_graph.specs.declared.names.Shape.{Shape}
 use Rattle.heap_graph.specs.declared.names.Shape.TheVariants.{Instance, Array}
 use Rattle.heap_graph.specs.declared.names.Stored.{Stored}
 use Rattle.heap_graph.specs.Graph.{Object}
-use Rattle.heap_world.specs.Formed.{AreObjects, AreReferents, AreSlots, HasSlot, has_weak_parent, is_referent, is_weak_class, weak_classes_after}
+use Rattle.heap_graph.specs.Formed.{AreObjects, AreReferents, AreSlots, HasSlot, has_weak_parent, is_referent, is_weak_class, weak_classes_after}
 use Rattle.heap_graph.proofs.LaidOut.{all-push, found-all, multiple-le}
 
 -- the fields of a layout that are weak: the one at offset 8 in weak references and below, and no other

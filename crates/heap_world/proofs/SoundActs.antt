@@ -26,7 +26,8 @@ use Rattle.heap_world.specs.declared.command.Verb.TheVariants as verb
 use Rattle.heap_world.specs.declared.reply.Refusal.{Refusal}
 use Rattle.heap_world.specs.Acts.{act, after_define, after_make, copy_root, drop_held, fork_part, fork_collected, gc_if, get_element, get_field, load_element, load_field, load_slot, make_numbered, make_shape, make_sized, make_slots, make_weak, new_of_class, part_after, put_element, referent_at, root_written, seal_if, set_field, show_root, store, dump_counted, dump_if}
 use Rattle.heap_world.specs.Effect.{Effect, effect_or}
-use Rattle.heap_world.specs.Formed.{IsFormed, FitsKind, HasFewFields, HasSlot, is_in_image}
+use Rattle.heap_graph.specs.Formed.{IsFormed, FitsKind, HasSlot, is_in_image}
+use Rattle.heap_world.specs.Commands.{HasFewFields}
 use Rattle.heap_world.specs.Part.{Part, first_part, with_collected}
 use Rattle.heap_world.specs.Slots.{◌>>=◌, held_by_root, named_by, object_held, only_reference, slot_indexed, slot_named, stored_value}
 use Rattle.heap_world.specs.Sound.{IsSound}

@@ -22,7 +22,7 @@ use Rattle.heap_world.specs.declared.names.Card.{Card}
 use Rattle.heap_world.specs.declared.names.PageName.{PageName}
 use Rattle.heap_world.specs.Acts.{first_if, first_touch, store_effect, store, stored_cards_if, with_slot}
 use Rattle.heap_world.specs.Cards.{add_card, add_card_if, add_cards, cards_in, held_cards, is_card_among, is_outward, outward_cards, same_card, is_noted}
-use Rattle.heap_world.specs.Formed.{IsFormed, FillZygote, FitsKind, HasSlot, IsBehindZygote, is_in_image, zygote_next}
+use Rattle.heap_graph.specs.Formed.{IsFormed, FillZygote, FitsKind, HasSlot, IsBehindZygote, is_in_image, zygote_next}
 use Rattle.heap_world.specs.Pages.{is_touched, page_in, pages_if_promoted, same_page, standing_pages}
 use Rattle.heap_world.specs.Part.{Part, with_collected}
 use Rattle.heap_world.specs.Sound.{IsSound}

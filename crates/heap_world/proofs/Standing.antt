@@ -18,7 +18,7 @@ use Rattle.heap_graph.specs.Graph.{Graph, Object, image_fill, image_size, is_imm
 use Rattle.heap_graph.specs.Sizes.{parts_for, unrounded}
 use Rattle.heap_world.specs.declared.names.PageName.{PageName}
 use Rattle.heap_world.specs.declared.names.PageName.TheVariants.{Image, Zygote, Large}
-use Rattle.heap_world.specs.Formed.{IsFormed, FillImage, FillZygote, HasSlot, IsBehindImage, IsBehindZygote, zygote_next}
+use Rattle.heap_graph.specs.Formed.{IsFormed, FillImage, FillZygote, HasSlot, IsBehindImage, IsBehindZygote, zygote_next}
 use Rattle.heap_world.specs.Pages.{count_from, image_pages, is_touched, page_in, pages_if_promoted, promoted_pages, same_page, standing_pages, zygote_pages}
 use Rattle.heap_world.proofs.Bounds.{page-refl}
 use Rattle.heap_graph.proofs.LaidOut.{found-all, lie-within}

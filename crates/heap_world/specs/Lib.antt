@@ -1,8 +1,9 @@
 pub mod Acts
 pub mod Cards
+pub mod Commands
+pub mod Counts
 pub mod Effect
 pub mod Examples
-pub mod Formed
 pub mod Isolation
 pub mod Pages
 pub mod Part

@@ -2,7 +2,7 @@
 use Rattle.std.specs.Prelude.{◌≡◌, true, false, []}
 use Rattle.std.specs.List.{AllByRecursion, IsDistinct}
 use Rattle.heap_world.specs.Cards.{outward_cards, same_card, is_noted}
-use Rattle.heap_world.specs.Formed.{IsFormed}
+use Rattle.heap_graph.specs.Formed.{IsFormed}
 use Rattle.heap_world.specs.Pages.{is_touched, same_page, standing_pages}
 use Rattle.heap_world.specs.Part.{Part}
 

@@ -11,7 +11,8 @@ ghost use Rattle.heap_graph.specs.Paths.{ArePacked};
 ghost use Rattle.heap_graph.specs.Sizes.{unrounded};
 ghost use Rattle.heap_graph.specs.declared.names.Shape.{Shape};
 ghost use Rattle.heap_world.specs.Acts.{act, fork_part};
-ghost use Rattle.heap_world.specs.Formed.{HasFewFields, HasSlot, IsFormed, is_referent};
+ghost use Rattle.heap_graph.specs.Formed.{HasSlot, IsFormed, is_referent};
+ghost use Rattle.heap_world.specs.Commands.{HasFewFields};
 ghost use Rattle.heap_world.specs.Part.{Part};
 ghost use Rattle.heap_world.specs.declared.command.Verb.{Verb};
 

@@ -9,7 +9,7 @@ use Rattle.class_layout.specs.ClassList.{Class}
 use Rattle.class_layout.specs.Kinds.{is_ref}
 use Rattle.heap_graph.specs.declared.names.Shape.TheVariants.{Instance, Array}
 use Rattle.heap_graph.specs.Graph.{Object}
-use Rattle.object_view.specs.Objects.{element, elements_from}
+use Rattle.heap_graph.specs.Places.{element, elements_from}
 use Rattle.object_view.specs.Seen.{value_in}
 use Rattle.object_view.proofs.Laid.{ref-kind}
 use Rattle.hprof_records.specs.declared.sub_record.SubRecord.TheVariants as part

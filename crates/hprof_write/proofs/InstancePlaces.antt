@@ -1,48 +1,24 @@
 -- The places of an instance's values, and how many they are.
-use Rattle.std.proofs.Common.{◌≡◌, ℕ, zero, suc, ◌+◌, ◌<◌, ◌≤◌, Bool, List, [], ◌∷◌, ◌++◌, Option, Some, None, length, take, map, nat_eq, refl, sym, ap, ◌∙◌, subst, arith, inl, inr, add-one, length-append}
+use Rattle.std.proofs.Common.{◌≡◌, ℕ, zero, suc, ◌+◌, ◌<◌, ◌≤◌, Bool, List, [], ◌∷◌, ◌++◌, Option, Some, None, length, take, map, nat_eq, refl, ap, ◌∙◌, subst, arith, inl, inr, add-one, length-append}
 use Rattle.std.proofs.lemmas.List.{length-map}
 use Rattle.std.specs.List.{slice_get}
-use Rattle.std.specs.Option.{IfSome, IsSomeAnd}
+use Rattle.std.specs.Option.{IfSome}
 use Rattle.std.specs.Prelude.{unwrap_or}
 use Rattle.class_layout.specs.declared.kind.FieldAt.{FieldAt}
 use Rattle.class_layout.specs.declared.kind.FieldDecl.{FieldDecl}
 use Rattle.class_layout.specs.ClassList.{Class, IsClassList, IsEarlier, layout_of, own_fields_of, superclass_layout}
-use Rattle.class_layout.specs.Kinds.{kind_bytes, next_multiple}
-use Rattle.class_layout.specs.Layout.{Laid, Placed, field_named, in_layout_order, lay_out, place_field, place_fields}
+use Rattle.class_layout.specs.Layout.{Laid, field_named, in_layout_order, lay_out, place_field, place_fields}
 use Rattle.class_layout.specs.Placing.{IsIn}
 use Rattle.class_layout.proofs.Layouts.{layout_of-parts}
 use Rattle.class_layout.proofs.Uniqueness.{length-in_layout_order}
 use Rattle.heap_graph.specs.declared.names.Shape.TheVariants.{Instance}
 use Rattle.heap_graph.proofs.LaidOut.{lie-within, multiple-le}
-use Rattle.object_view.specs.Objects.{places_of}
-use Rattle.object_view.proofs.Laid.{bytes-low, found-in}
+use Rattle.heap_graph.specs.Places.{places_of}
+use Rattle.heap_graph.proofs.Places.{bytes-low, found-in}
 use Rattle.hprof_write.specs.Objects.{dumped_places, own_places, parent_of, place_named, places_up}
-use Rattle.hprof_write.proofs.Chains.{at-map, none-up, within-more}
+use Rattle.hprof_write.proofs.Chains.{none-up, within-more}
 use Rattle.hprof_write.proofs.TableLines.{take-more}
 use Rattle.hprof_write.proofs.ValuesAt.{own-place}
-
-in-push : (ps : List Placed) (x : Placed) (q : FieldAt) → IsIn q (map (λ p. p.at) ps) → IsIn q (map (λ p. p.at) (ps ++ x ∷ []))
-in-push [] x q h = absurd h
-in-push (p ∷ ps) x q (inl e) = inl e
-in-push (p ∷ ps) x q (inr h) = inr (in-push ps x q h)
-
-in-fields : (weak : Bool) (laid : Laid) (fs : List FieldDecl) (q : FieldAt) → IsIn q (map (λ p. p.at) laid.fields) → IsIn q (map (λ p. p.at) (place_fields weak laid fs).fields)
-in-fields weak laid [] q h = h
-in-fields weak laid (f ∷ fs) q h =
-    in-fields weak (place_field weak laid f) fs q
-    (in-push laid.fields (record { name = f.name; at = record { kind = f.kind; offset = next_multiple (kind_bytes f.kind) laid.end; weak = weak } }) q h)
-
--- a superclass's places are its class's
-pub parent-places : (cs : List Class) (k p : ℕ) (q : FieldAt) → IsClassList cs → slice_get (map (λ c. c.parent) cs) k ≡ Some (Some p)
-    → IsIn q (places_of cs (Instance p)) → IsIn q (places_of cs (Instance k))
-parent-places cs k p q formed h there = at (slice_get cs k) (layout_of-parts cs k formed) (at-map (λ (c : Class). c.parent) cs k (Some p) h)
-  where
-    at : (x : Option Class) → IfSome x (λ c. layout_of cs k ≡ lay_out (nat_eq k 1) (superclass_layout cs c.parent) c.fields) → IsSomeAnd x (λ c. c.parent ≡ Some p)
-        → IsIn q (places_of cs (Instance k))
-    at None a b = absurd b
-    at (Some c) a b =
-        let e : layout_of cs k ≡ lay_out (nat_eq k 1) (layout_of cs p) c.fields = a ∙ ap (λ (o : Option ℕ). lay_out (nat_eq k 1) (superclass_layout cs o) c.fields) b in
-        subst (λ (l : Laid). IsIn q (map (λ r. r.at) l.fields)) (sym e) (in-fields (nat_eq k 1) (layout_of cs p) (in_layout_order c.fields) q there)
 
 field-in : (laid : Laid) (place : FieldAt) (fs : List FieldDecl) (k : ℕ) → k < length fs → IfSome (slice_get fs k) (λ f. field_named laid f.name ≡ Some place)
     → IsIn place (map (λ p. p.at) laid.fields)

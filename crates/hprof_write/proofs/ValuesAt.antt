@@ -13,8 +13,9 @@ use Rattle.class_layout.specs.Kinds.{first_element, kind_bytes}
 use Rattle.class_layout.specs.Layout.{field_named}
 use Rattle.class_layout.specs.Placing.{IsIn}
 use Rattle.heap_graph.specs.Graph.{Graph, Object}
-use Rattle.object_view.specs.Objects.{element, elements_from, places_of}
+use Rattle.heap_graph.specs.Places.{element, elements_from, places_of}
 use Rattle.object_view.specs.Seen.{HasValue, RoseBy, count_if, value_in}
+use Rattle.object_view.proofs.Rises.{rose-both, rose-more}
 use Rattle.hprof_write.specs.Objects.{HasValues, no_place, own_places, place_named, value_bytes, values_bytes}
 use Rattle.hprof_write.proofs.TableLines.{take-more}
 
@@ -52,12 +53,8 @@ values-more table o places k place first now next e h f =
 
 -- one more read
 pub reads-more : (b : Bool) (k before mid now : ℕ) → RoseBy (count_if b k) before mid → RoseBy (count_if b 1) mid now → RoseBy (count_if b (suc k)) before now
-reads-more true k before mid now h r =
-    let a = h.never_falls in let b = h.most in let c = r.never_falls in let d = r.most in
-    record { never_falls = omega arith; most = omega arith }
-reads-more false k before mid now h r =
-    let a = h.never_falls in let b = h.most in let c = r.never_falls in let d = r.most in
-    record { never_falls = omega arith; most = omega arith }
+reads-more true k before mid now h r = rose-more (k + 1) (suc k) before now (omega arith) (rose-both k 1 before mid now h r)
+reads-more false k before mid now h r = rose-both 0 0 before mid now h r
 
 -- the places of own fields, one by one
 places-map : (cs : List Class) (class : ℕ) (fs : List FieldDecl) (k : ℕ) (place : FieldAt) → k < length fs

@@ -12,6 +12,7 @@ use Rattle.heap_graph.specs.Packing.{after, place, places_from, young_objects}
 use Rattle.heap_graph.specs.Sizes.{size_in, unrounded}
 use Rattle.heap_graph.specs.Table.{Fits, IsPlacedAt, in_spot_window}
 use Rattle.object_view.specs.Seen.{RoseBy, count_if, is_in_window}
+use Rattle.object_view.proofs.Rises.{rose-more}
 use Rattle.object_view.proofs.Laid.{size-bounds}
 use Rattle.hprof_write.specs.Reads.{object_values}
 
@@ -58,11 +59,9 @@ window-place g table o fits there inside = by o.place refl (fits.placed o there)
     by Promoted e (k, less, is) = absurd (far (omega arith))
 
 fewer : (b c : Bool) (n m before now : ℕ) → (b ≡ true → c ≡ true) → n ≤ m → RoseBy (count_if b n) before now → RoseBy (count_if c m) before now
-fewer true true n m before now f le h = let a = h.never_falls in let b = h.most in record { never_falls = a; most = omega arith }
+fewer true true n m before now f le h = rose-more n m before now le h
 fewer true false n m before now f le h = absurd (true≢false (sym (f refl)))
-fewer false c n m before now f le h =
-    let a = h.never_falls in let b = h.most in
-    record { never_falls = a; most = omega arith }
+fewer false c n m before now f le h = rose-more 0 (count_if c m) before now (omega arith) h
 
 -- so many values of an object are among its words
 pub values-within : (g : Graph) (table : ℕ → ℕ) (at n before now : ℕ) (o : Object) → Fits table g → IsIn o g.objects → table o.number ≡ at

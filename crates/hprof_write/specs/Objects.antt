@@ -19,7 +19,7 @@ use Rattle.hprof_records.specs.declared.sub_record.SubRecord.{SubRecord}
 use Rattle.hprof_records.specs.declared.sub_record.SubRecord.TheVariants as part
 use Rattle.hprof_records.specs.Fields.{field}
 use Rattle.hprof_records.specs.Parts.{word}
-use Rattle.object_view.specs.Objects.{elements_from, places_of}
+use Rattle.heap_graph.specs.Places.{elements_from, places_of}
 use Rattle.object_view.specs.Seen.{value_in}
 use Rattle.hprof_write.specs.Classes.{array_class_id, class_id, kind_code}
 

@@ -4,7 +4,7 @@ ghost use Rattle.heap_graph.specs.declared.names.Shape.{Shape};
 ghost use Rattle.heap_graph.specs.Graph.{Object};
 ghost use Rattle.heap_graph.specs.Sizes.{is_too_large};
 ghost use Rattle.class_layout.specs.Placing.{IsIn};
-ghost use Rattle.object_view.specs.Objects.{elements_from, places_of};
+ghost use Rattle.heap_graph.specs.Places.{elements_from, places_of};
 ghost use Rattle.object_view.specs.Seen.{count_if, is_in_window, value_in, RoseBy};
 ghost use Rattle.hprof_write.specs.Objects.{dumped_places, own_places, value_bytes, values_bytes, HasValues};
 

@@ -19,7 +19,8 @@ use Rattle.heap_graph.specs.declared.names.Shape.TheVariants.{Instance, Array}
 use Rattle.heap_graph.specs.Sizes.{size_in}
 use Rattle.object_view.specs.declared.names.Header.{Header}
 use Rattle.object_view.specs.Changes.{HasBytes}
-use Rattle.object_view.specs.Objects.{is_in_value, places_of, Stands}
+use Rattle.heap_graph.specs.Places.{places_of}
+use Rattle.object_view.specs.Objects.{is_in_value, Stands}
 use Rattle.object_view.specs.Values.{number_at, number_of, AreBytes}
 use Rattle.object_view.specs.Words.{head_end, HasLength}
 use Rattle.object_view.proofs.Numbers.{bytes_at-nth}

@@ -1,108 +1,28 @@
 -- The places of an object's values: they rise, lie apart, and lie in the object.
-use Rattle.std.proofs.Common.{◌≡◌, ◌⊎◌, ◌∙◌, ℕ, zero, suc, ◌+◌, ◌*◌, ◌%◌, ◌<◌, ◌≤◌, Bool, true, false, List, [], ◌∷◌, ◌++◌, Some, map, filter, refl, sym, ap, subst, inl, inr, arith, slice_get}
-use Rattle.std.specs.List.{AllByRecursion, find}
-use Rattle.std.specs.Option.{option_map}
+use Rattle.std.proofs.Common.{◌≡◌, ◌⊎◌, ◌∙◌, ℕ, zero, suc, ◌+◌, ◌%◌, ◌<◌, ◌≤◌, Bool, true, false, List, [], ◌∷◌, Some, map, filter, refl, sym, ap, subst, inl, inr, arith, slice_get}
+use Rattle.std.specs.List.{AllByRecursion}
 use Rattle.std.proofs.Common.{cond, true≢false, nat_le, nat_lt, ◌&&◌, ◌||◌}
-use Rattle.std.proofs.lemmas.Bool.{cases_lt, cases_eq, lt-ltb, le-leb, ltb-true}
+use Rattle.std.proofs.lemmas.Bool.{cases_lt, lt-ltb, le-leb, ltb-true}
 use Rattle.std.proofs.lemmas.Option.{same_Some, none-some}
-use Rattle.class_layout.specs.Names.{same_name}
 use Rattle.class_layout.specs.declared.kind.Kind.{Kind}
 use Rattle.class_layout.specs.declared.kind.Kind.TheVariants.{Ref, Boolean, Byte, Char, Short, Int, Long}
 use Rattle.class_layout.specs.declared.kind.FieldAt.{FieldAt}
-use Rattle.class_layout.specs.declared.kind.FieldDecl.{FieldDecl}
 use Rattle.class_layout.specs.ClassList.{Class, layout_of}
-use Rattle.class_layout.specs.Kinds.{kind_bytes, next_multiple, first_element, array_end, is_ref}
-use Rattle.class_layout.specs.Layout.{Laid, Placed, place_field}
+use Rattle.class_layout.specs.Kinds.{kind_bytes, is_ref}
+use Rattle.class_layout.specs.Layout.{Placed}
 use Rattle.class_layout.specs.Placing.{IsIn}
 use Rattle.heap_graph.specs.declared.names.Shape.{Shape}
 use Rattle.heap_graph.specs.declared.names.Shape.TheVariants.{Instance, Array}
 use Rattle.heap_graph.specs.Sizes.{size_in, unrounded}
-use Rattle.heap_graph.proofs.LaidOut.{each-layout}
-use Rattle.object_view.specs.Objects.{places_of, elements_from, element, is_in_value, place_if, reference_place, IsPlace}
+use Rattle.heap_graph.specs.Places.{element, elements_from, places_of}
+use Rattle.heap_graph.proofs.Places.{AreLaid, array-laid, element-in, fields-laid, laid-in, laid-le, laid-lower}
+use Rattle.object_view.specs.Objects.{is_in_value, place_if, reference_place, IsPlace}
 use Rattle.object_view.specs.Words.{head_end}
-
--- the places rise from one offset to another, each at a multiple of its size
-abbrev pub AreLaid : ℕ → ℕ → List FieldAt → Type 0
-AreLaid low high [] = low ≤ high
-AreLaid low high (p ∷ ps) = (low ≤ p.offset) × (p.offset % kind_bytes p.kind ≡ 0) × AreLaid (p.offset + kind_bytes p.kind) high ps
-
-laid-push : (low end : ℕ) (ps : List FieldAt) (p : FieldAt) → AreLaid low end ps → end ≤ p.offset → p.offset % kind_bytes p.kind ≡ 0 → AreLaid low (p.offset + kind_bytes p.kind) (ps ++ p ∷ [])
-laid-push low end [] p laid after multiple = (omega arith, multiple, omega arith)
-laid-push low end (q ∷ ps) p laid after multiple = (laid.0, laid.1, laid-push (q.offset + kind_bytes q.kind) end ps p laid.2 after multiple)
-
-multiple-near : (k : Kind) (p : ℕ) → (p ≤ next_multiple (kind_bytes k) p) × (next_multiple (kind_bytes k) p % kind_bytes k ≡ 0)
-multiple-near Ref p = (omega arith, omega arith)
-multiple-near Boolean p = (omega arith, omega arith)
-multiple-near Byte p = (omega arith, omega arith)
-multiple-near Char p = (omega arith, omega arith)
-multiple-near Short p = (omega arith, omega arith)
-multiple-near Int p = (omega arith, omega arith)
-multiple-near Long p = (omega arith, omega arith)
-
-places-push : (xs : List Placed) (x : Placed) → map (λ p. p.at) (xs ++ x ∷ []) ≡ map (λ p. p.at) xs ++ x.at ∷ []
-places-push [] x = refl
-places-push (y ∷ xs) x = ap (λ ps. y.at ∷ ps) (places-push xs x)
-
-abbrev LaidFields : Laid → Type 0
-LaidFields l = AreLaid 8 l.end (map (λ p. p.at) l.fields)
-
-laid-step : (weak : Bool) (l : Laid) (f : FieldDecl) → LaidFields l → LaidFields (place_field weak l f)
-laid-step weak l f h =
-    let near = multiple-near f.kind l.end in
-    let offset : ℕ = next_multiple (kind_bytes f.kind) l.end in
-    let at : FieldAt = record { kind = f.kind; offset = offset; weak = weak } in
-    subst (AreLaid 8 (offset + kind_bytes f.kind)) (sym (places-push l.fields (record { name = f.name; at = at })))
-    (laid-push 8 l.end (map (λ p. p.at) l.fields) at h near.0 near.1)
-
-pub fields-laid : (cs : List Class) (k : ℕ) → AreLaid 8 (layout_of cs k).end (map (λ p. p.at) (layout_of cs k).fields)
-fields-laid cs k = each-layout LaidFields (omega arith) laid-step cs k
-
-element-fits : (kind : Kind) (i : ℕ) → (12 ≤ (element kind i).offset) × ((element kind i).offset % kind_bytes kind ≡ 0) × ((element kind i).offset + kind_bytes kind ≤ first_element kind + (i + 1) * kind_bytes kind)
-element-fits Ref i = (omega arith, omega arith, omega arith)
-element-fits Boolean i = (omega arith, omega arith, omega arith)
-element-fits Byte i = (omega arith, omega arith, omega arith)
-element-fits Char i = (omega arith, omega arith, omega arith)
-element-fits Short i = (omega arith, omega arith, omega arith)
-element-fits Int i = (omega arith, omega arith, omega arith)
-element-fits Long i = (omega arith, omega arith, omega arith)
-
--- a lower start is one too
-pub laid-lower : (a b high : ℕ) (ps : List FieldAt) → a ≤ b → AreLaid b high ps → AreLaid a high ps
-laid-lower a b high [] le laid = omega arith
-laid-lower a b high (p ∷ ps) le laid = (omega (arith, laid.0), laid.1, laid.2)
-
-elements-laid : (kind : Kind) (i n : ℕ) → AreLaid (first_element kind + i * kind_bytes kind) (first_element kind + (i + n) * kind_bytes kind) (elements_from kind i n)
-elements-laid kind i zero = subst (λ k. first_element kind + i * kind_bytes kind ≤ first_element kind + k * kind_bytes kind) (let e : i ≡ i + 0 = omega arith in e) (omega arith)
-elements-laid kind i (suc n) =
-    let fits = element-fits kind i in
-    let rest = elements-laid kind (i + 1) n in
-    let e : i + 1 + n ≡ i + suc n = omega arith in (
-      omega arith,
-      fits.1,
-      laid-lower ((element kind i).offset + kind_bytes kind) (first_element kind + (i + 1) * kind_bytes kind) _ (elements_from kind (i + 1) n) fits.2
-          (subst (λ k. AreLaid (first_element kind + (i + 1) * kind_bytes kind) (first_element kind + k * kind_bytes kind) (elements_from kind (i + 1) n)) e rest),
-    )
-
-first-low : (kind : Kind) → 12 ≤ first_element kind + 0 * kind_bytes kind
-first-low Ref = omega arith
-first-low Boolean = omega arith
-first-low Byte = omega arith
-first-low Char = omega arith
-first-low Short = omega arith
-first-low Int = omega arith
-first-low Long = omega arith
 
 -- an object's values lie behind its words and before its end
 pub places-laid : (cs : List Class) (shape : Shape) → AreLaid (head_end shape) (unrounded cs shape) (places_of cs shape)
 places-laid cs (Instance class) = fields-laid cs class
-places-laid cs (Array kind count) =
-    laid-lower 12 (first_element kind + 0 * kind_bytes kind) (array_end kind count) (elements_from kind 0 count) (first-low kind)
-    (subst (λ k. AreLaid (first_element kind + 0 * kind_bytes kind) (first_element kind + k * kind_bytes kind) (elements_from kind 0 count)) (let e : 0 + count ≡ count = omega arith in e) (elements-laid kind 0 count))
-
--- what is laid ends behind where it begins
-pub laid-le : (low high : ℕ) (ps : List FieldAt) → AreLaid low high ps → low ≤ high
-laid-le low high [] laid = laid
-laid-le low high (p ∷ ps) laid = omega (arith, laid.0, laid-le (p.offset + kind_bytes p.kind) high ps laid.2)
+places-laid cs (Array kind count) = array-laid kind count
 
 -- the rounded size is no less than the end
 pub size-bounds : (cs : List Class) (shape : Shape) → (head_end shape ≤ unrounded cs shape) × (unrounded cs shape ≤ size_in cs shape) × (8 ≤ head_end shape) × (size_in cs shape % 8 ≡ 0)
@@ -113,16 +33,6 @@ size-bounds cs shape =
     head : (shape : Shape) → 8 ≤ head_end shape
     head (Instance class) = omega arith
     head (Array kind count) = omega arith
-
--- where one place lies
-pub laid-in : (low high : ℕ) (ps : List FieldAt) (p : FieldAt) → AreLaid low high ps → IsIn p ps → (low ≤ p.offset) × (p.offset % kind_bytes p.kind ≡ 0) × (p.offset + kind_bytes p.kind ≤ high)
-laid-in low high [] p laid there = absurd there
-laid-in low high (q ∷ ps) p laid (inl same) =
-    subst (λ (r : FieldAt). (low ≤ r.offset) × (r.offset % kind_bytes r.kind ≡ 0) × (r.offset + kind_bytes r.kind ≤ high)) same
-    (laid.0, laid.1, laid-le (q.offset + kind_bytes q.kind) high ps laid.2)
-laid-in low high (q ∷ ps) p laid (inr there) =
-    let rest = laid-in (q.offset + kind_bytes q.kind) high ps p laid.2 there in
-    (omega (arith, laid.0, rest.0), rest.1, rest.2)
 
 -- what holds of places gives what holds of them, given where they lie
 pub all-laid : (P Q : FieldAt → Type 0) (low high : ℕ) (ps : List FieldAt) → AreLaid low high ps → AllByRecursion P ps
@@ -167,50 +77,6 @@ beside-place ps p i there none = elim (cases_lt i p.offset) [
     | inl high ↦ absurd (true≢false (sym (in-value ps p i there low high) ∙ none))
     | inr above ↦ inr above
   ]
-]
-
-pub bytes-low : (k : Kind) → 1 ≤ kind_bytes k
-bytes-low Ref = omega arith
-bytes-low Boolean = omega arith
-bytes-low Byte = omega arith
-bytes-low Char = omega arith
-bytes-low Short = omega arith
-bytes-low Int = omega arith
-bytes-low Long = omega arith
-
--- a place behind another has a greater offset
-laid-behind : (high : ℕ) (ps : List FieldAt) (x p : FieldAt) → AreLaid (x.offset + kind_bytes x.kind) high ps → IsIn p ps → x.offset ≡ p.offset → ⊥
-laid-behind high ps x p laid there e =
-    let low = laid-in (x.offset + kind_bytes x.kind) high ps p laid there in
-    omega (arith, bytes-low x.kind, low.0, e)
-
-laid-once : (low high : ℕ) (ps : List FieldAt) (p q : FieldAt) → AreLaid low high ps → IsIn p ps → IsIn q ps → p.offset ≡ q.offset → p ≡ q
-laid-once low high [] p q laid there other e = absurd there
-laid-once low high (x ∷ ps) p q laid (inl f) (inl g) e = sym f ∙ g
-laid-once low high (x ∷ ps) p q laid (inl f) (inr h) e = absurd (laid-behind high ps x q laid.2 h (ap (λ (r : FieldAt). r.offset) f ∙ e))
-laid-once low high (x ∷ ps) p q laid (inr h) (inl g) e = absurd (laid-behind high ps x p laid.2 h (ap (λ (r : FieldAt). r.offset) g ∙ sym e))
-laid-once low high (x ∷ ps) p q laid (inr h) (inr k) e = laid-once (x.offset + kind_bytes x.kind) high ps p q laid.2 h k e
-
--- places of one offset are one place
-pub one-place : (cs : List Class) (shape : Shape) (p q : FieldAt) → IsIn p (places_of cs shape) → IsIn q (places_of cs shape) → p.offset ≡ q.offset → p ≡ q
-one-place cs shape p q = laid-once (head_end shape) (unrounded cs shape) (places_of cs shape) p q (places-laid cs shape)
-
--- a field that a name finds is a place
-pub found-in : (ps : List Placed) (name : List ℕ) (at : FieldAt) → option_map (λ p. p.at) (find (λ p. same_name p.name name) ps) ≡ Some at → IsIn at (map (λ p. p.at) ps)
-found-in [] name at e = absurd (none-some at e)
-found-in (p ∷ ps) name at e = by (same_name p.name name) e (found-in ps name at)
-  where
-    by : (b : Bool) → option_map (λ q. q.at) (cond b (Some p) (find (λ q. same_name q.name name) ps)) ≡ Some at
-        → (option_map (λ q. q.at) (find (λ q. same_name q.name name) ps) ≡ Some at → IsIn at (map (λ q. q.at) ps)) → IsIn at (p.at ∷ map (λ q. q.at) ps)
-    by true e rest = inl (same_Some p.at at e)
-    by false e rest = inr (rest e)
-
--- an element is one of the places
-pub element-in : (kind : Kind) (k n i : ℕ) → k ≤ i → i < k + n → IsIn (element kind i) (elements_from kind k n)
-element-in kind k zero i low high = absurd (omega arith)
-element-in kind k (suc n) i low high = elim (cases_eq k i) [
-  | inl same ↦ inl (ap (element kind) same)
-  | inr apart ↦ inr (element-in kind (k + 1) n i (omega arith) (omega arith))
 ]
 
 -- what a filter leaves at an index was there, and passes

@@ -10,7 +10,8 @@ use Rattle.class_layout.specs.Layout.{Placed, references}
 use Rattle.class_layout.specs.Placing.{IsIn}
 use Rattle.heap_graph.specs.declared.names.Shape.{Shape}
 use Rattle.heap_graph.specs.declared.names.Shape.TheVariants.{Instance, Array}
-use Rattle.object_view.specs.Objects.{element, elements_from, place_if, places_of, reference_count, reference_place}
+use Rattle.heap_graph.specs.Places.{element, elements_from, places_of}
+use Rattle.object_view.specs.Objects.{place_if, reference_count, reference_place}
 use Rattle.object_view.proofs.Laid.{ref-kind}
 
 -- what passes a filter stands at an index of what it leaves

@@ -18,11 +18,13 @@ use Rattle.heap_graph.specs.declared.names.Shape.TheVariants.{Instance, Array}
 use Rattle.heap_graph.specs.Sizes.{size_in, unrounded}
 use Rattle.object_view.specs.declared.names.Header.{Header}
 use Rattle.object_view.specs.Changes.{ChangesWithin, HasBytes, PutsNumber}
-use Rattle.object_view.specs.Objects.{is_in_value, places_of, reference_place, IsKnown, IsPlace, IsSpace, HasShape, HasHeader, Stands}
+use Rattle.heap_graph.specs.Places.{places_of}
+use Rattle.object_view.specs.Objects.{is_in_value, reference_place, IsKnown, IsPlace, IsSpace, HasShape, HasHeader, Stands}
 use Rattle.object_view.specs.Values.{number_at, number_of, no_values, with_value}
 use Rattle.object_view.specs.Words.{head_end, class_word, lock_word, HasLength, IsHeader}
 use Rattle.object_view.proofs.Numbers.{number-same, number-zero}
-use Rattle.object_view.proofs.Laid.{AreLaid, beside-place, bytes-low, laid-in, all-laid, all-places, places-laid, size-bounds}
+use Rattle.heap_graph.proofs.Places.{AreLaid, bytes-low, laid-in}
+use Rattle.object_view.proofs.Laid.{beside-place, all-laid, all-places, places-laid, size-bounds}
 
 -- a part of a space is a space
 pub space-part : (v : View) (at size part : ℕ) → part ≤ size → IsSpace v at size → IsSpace v at part

@@ -13,7 +13,8 @@ use Rattle.class_layout.specs.declared.kind.FieldAt.{FieldAt}
 use Rattle.class_layout.specs.declared.kind.Kind.{Kind}
 use Rattle.heap_graph.specs.declared.names.Shape.{Shape}
 use Rattle.object_view.specs.declared.names.Header.{Header}
-use Rattle.object_view.specs.Objects.{places_of, IsPlace, Stands}
+use Rattle.heap_graph.specs.Places.{places_of}
+use Rattle.object_view.specs.Objects.{IsPlace, Stands}
 use lib.IntN.{negsuc, nat_abs}
 use Rattle.class_layout.specs.declared.kind.Kind.TheVariants.{Ref, Boolean, Byte, Char, Short, Int, Long}
 use Rattle.class_layout.specs.Kinds.{kind_bytes}

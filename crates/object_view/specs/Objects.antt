@@ -1,15 +1,16 @@
 -- What stands in memory for an object.
-use Rattle.std.specs.Prelude.{◌≡◌, ⊤, ℕ, zero, suc, ◌+◌, ◌*◌, ◌%◌, ◌^◌, ◌<◌, ◌≤◌, Bool, true, false, if◌then◌else◌, ◌&&◌, List, [], ◌∷◌, map, length, Option, Some, None, nat_le, nat_lt, slice_get, ℤ, pos}
+use Rattle.std.specs.Prelude.{◌≡◌, ⊤, ℕ, ◌+◌, ◌%◌, ◌^◌, ◌<◌, ◌≤◌, Bool, true, false, if◌then◌else◌, ◌&&◌, List, length, Option, Some, None, nat_le, nat_lt, slice_get, ℤ, pos}
 use Rattle.std.specs.List.{list_any, AllByRecursion}
 use Rattle.class_layout.specs.declared.kind.Kind.{Kind}
 use Rattle.class_layout.specs.declared.kind.FieldAt.{FieldAt}
 use Rattle.class_layout.specs.ClassList.{Class, layout_of}
-use Rattle.class_layout.specs.Kinds.{kind_bytes, first_element, is_ref}
+use Rattle.class_layout.specs.Kinds.{kind_bytes, is_ref}
 use Rattle.class_layout.specs.Layout.{references}
 use Rattle.class_layout.specs.Placing.{IsIn}
 use Rattle.cow_pages.specs.View.{View, u32_at}
 use Rattle.heap_graph.specs.declared.names.Shape.{Shape}
 use Rattle.heap_graph.specs.declared.names.Shape.TheVariants.{Instance, Array}
+use Rattle.heap_graph.specs.Places.{element, places_of}
 use Rattle.heap_graph.specs.Sizes.{size_in}
 use Rattle.object_view.specs.declared.names.Header.{Header}
 use Rattle.object_view.specs.declared.names.Slot.{Slot}
@@ -20,20 +21,6 @@ use Rattle.object_view.specs.Words.{class_word, lock_word, head_end, HasLength, 
 pub record IsSpace (v : View) (at size : ℕ) : Type 0 where
   pub below : at + size ≤ 2 ^ 32
   pub mapped : (i : ℕ) → i < size → v.mapped (at + i) ≡ true
-
--- the place of an element
-abbrev pub element : Kind → ℕ → FieldAt
-element kind i = record { kind = kind; offset = first_element kind + i * kind_bytes kind; weak = false }
-
--- the places of so many elements, from an index on
-abbrev pub elements_from : Kind → ℕ → ℕ → List FieldAt
-elements_from kind i zero = []
-elements_from kind i (suc n) = element kind i ∷ elements_from kind (i + 1) n
-
--- the places of an object's values, by rising offset: the fields of its class and of the superclasses, or the elements
-abbrev pub places_of : List Class → Shape → List FieldAt
-places_of cs (Instance class) = map (λ p. p.at) (layout_of cs class).fields
-places_of cs (Array kind count) = elements_from kind 0 count
 
 -- the byte at an offset is one of a value's
 abbrev pub is_in_value : List FieldAt → ℕ → Bool

@@ -1,5 +1,6 @@
 //! Laws above the definitions: what they say, in other words.
 ghost use Rattle.std.specs.Prelude.{◌≡◌, ◌≢◌, ◌⊎◌, ℕ, ◌+◌, ◌≤◌, ◌%◌, ◌^◌, ◌<◌, ◌++◌, Some, None, IsTrue, ℤ, List, length};
+ghost use Rattle.std.specs.List.{count_by};
 ghost use Rattle.class_layout.specs.declared.kind.FieldAt.{FieldAt};
 ghost use Rattle.class_layout.specs.declared.kind.Kind.{Kind};
 ghost use Rattle.class_layout.specs.ClassList.{Class, layout_of};
@@ -7,15 +8,17 @@ ghost use Rattle.class_layout.specs.Kinds.{kind_bytes};
 ghost use Rattle.class_layout.specs.Layout.{field_named};
 ghost use Rattle.class_layout.specs.Placing.{IsIn};
 ghost use Rattle.cow_pages.specs.declared.address.Addr.{Addr};
-ghost use Rattle.cow_pages.specs.Address.{page_of};
+ghost use Rattle.cow_pages.specs.Address.{page_of, is_immune};
 ghost use Rattle.cow_pages.specs.Memory.{frame_at, is_mapped, is_written, HasOneSharer, IsSound, Memory};
 ghost use Rattle.cow_pages.specs.View.{view_of, SameView, View};
 ghost use Rattle.heap_graph.specs.declared.names.Shape.{Shape};
 ghost use Rattle.heap_graph.specs.Sizes.{size_in};
 ghost use Rattle.object_view.specs.declared.names.Header.{Header};
 ghost use Rattle.object_view.specs.declared.names.Header.TheVariants.{Forward};
-ghost use Rattle.object_view.specs.Changes.{ChangesPages, ChangesWithin, HasBytes, PutsNumber};
-ghost use Rattle.object_view.specs.Objects.{element, places_of, reference_count, reference_place, HasHeader, HasShape, IsKnown, IsPlace, IsSpace, Stands};
+ghost use Rattle.object_view.specs.Changes.{reads_after_all, ChangesPages, ChangesWithin, HasBytes, PutsNumber};
+ghost use Rattle.heap_graph.specs.Places.{element, places_of};
+ghost use Rattle.object_view.specs.Objects.{reference_count, reference_place, HasHeader, HasShape, IsKnown, IsPlace, IsSpace, Stands};
+ghost use Rattle.object_view.specs.Seen.{is_in_window, RoseBy};
 ghost use Rattle.object_view.specs.Values.{is_value, number_at, number_of, value_of, with_value, AreBytes};
 ghost use Rattle.object_view.specs.Words.{head_end, lock_word};
 
@@ -39,11 +42,6 @@ pub fn places_lie_in_objects()
     ensures reference { (cs : List Class) (shape : Shape) (k : ℕ) (place : FieldAt) → reference_place cs shape k ≡ Some place → IsPlace cs shape Kind.Ref place.offset place }
     ensures within { (cs : List Class) (shape : Shape) (kind : Kind) (offset : ℕ) (place : FieldAt) → IsPlace cs shape kind offset place
         → (head_end shape ≤ offset) × (offset % kind_bytes kind ≡ 0) × (offset + kind_bytes kind ≤ size_in cs shape) }
-{}
-
-/// Two places of a shape have two offsets.
-pub fn places_are_apart()
-    ensures { (cs : List Class) (shape : Shape) (p q : FieldAt) → IsIn p (places_of cs shape) → IsIn q (places_of cs shape) → p.offset ≡ q.offset → p ≡ q }
 {}
 
 /// The references of a shape stand by rising offset.
@@ -140,4 +138,21 @@ pub fn alone_stays()
         → (frame_at new u q ≡ frame_at old u q) × (is_written new u q ≡ is_written old u q) }
     ensures alone { (old new : Memory) (t first n u q : ℕ) → ChangesPages old new t first n → IsTrue (is_mapped old u q) → IsTrue (is_mapped new u q)
         → HasOneSharer old u q → (frame_at new u q ≡ frame_at old u q) × HasOneSharer new u q }
+{}
+
+/// Counts of reads add up: no read is a rise by 0, a rise after a rise is a rise by both, and what rose by at most so many
+/// rose by at most more.
+pub fn reads_add_up()
+    ensures none { (now : ℕ) → RoseBy 0 now now }
+    ensures both { (a b before mid now : ℕ) → RoseBy a before mid → RoseBy b mid now → RoseBy (a + b) before now }
+    ensures more { (a b before now : ℕ) → a ≤ b → RoseBy a before now → RoseBy b before now }
+{}
+
+/// After reads at a list of addresses the count has risen by at most the number of those in the image or in the zygote
+/// window. It stands still at the last value of 64 bits.
+pub fn reads_are_counted()
+    ensures rise { (reads : ℕ) (ats : List ℕ) → reads < 2 ^ 64 → RoseBy (count_by is_immune ats) reads (reads_after_all reads ats) }
+    ensures fit { (reads : ℕ) (ats : List ℕ) → reads < 2 ^ 64 → reads_after_all reads ats < 2 ^ 64 }
+    ensures joined { (reads : ℕ) (first then : List ℕ) → reads_after_all reads (first ++ then) ≡ reads_after_all (reads_after_all reads first) then }
+    ensures windows { (at : ℕ) → is_immune at ≡ is_in_window at }
 {}

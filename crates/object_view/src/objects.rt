@@ -213,7 +213,8 @@ fn write_zeros(
     Ok(())
 }
 
-fn size_of(classes: &Classes, shape: Shape) -> u64
+/// The bytes that an object of a shape takes, rounded up to a multiple of 8.
+pub fn size_of(classes: &Classes, shape: Shape) -> u64
     requires { IsKnown classes.now shape }
     ensures { result ≡ size_in classes.now shape }
 {

@@ -2,9 +2,9 @@
 use Rattle.std.proofs.Common.{◌≡◌, ℕ, List, Some, sym, ◌∙◌, ap, subst}
 use Rattle.heap_graph.specs.Graph.{Graph}
 use Rattle.heap_graph.specs.Table.{Fits}
-use Rattle.heap_world.specs.Formed.{IsFormed}
+use Rattle.heap_graph.specs.Formed.{IsFormed}
 use Rattle.heap_world.specs.World.{World}
-use Rattle.plain_machine.specs.Counts.{graph_of}
+use Rattle.heap_world.specs.Counts.{graph_of}
 use Rattle.plain_view.specs.Viewed.{first_table}
 use Rattle.plain_view.proofs.Shown.{first-fits}
 use Rattle.plain_dumps.specs.Addresses.{addresses, table_in}

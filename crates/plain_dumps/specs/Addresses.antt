@@ -2,7 +2,7 @@
 use Rattle.std.specs.Prelude.{ℕ, List, Option, None, Some}
 use Rattle.heap_graph.specs.Graph.{Graph}
 use Rattle.heap_world.specs.World.{World}
-use Rattle.plain_machine.specs.Counts.{graph_of}
+use Rattle.heap_world.specs.Counts.{graph_of}
 use Rattle.plain_view.specs.Viewed.{first_table}
 
 -- the table of addresses of a graph; without one, each object stands at null

@@ -7,7 +7,7 @@ ghost use Rattle.hprof_records.specs.Records.{dump_bytes};
 ghost use Rattle.hprof_write.specs.Outcomes.{AppendedPrefix, IfShelfFault};
 ghost use Rattle.hprof_write.specs.TableText.{table_text};
 ghost use Rattle.hprof_write.specs.Written.{written};
-ghost use Rattle.plain_machine.specs.Counts.{graph_of};
+ghost use Rattle.heap_world.specs.Counts.{graph_of};
 ghost use Rattle.plain_machine.specs.Worlds.{StandsFor};
 ghost use Rattle.plain_view.specs.Viewed.{address_at};
 ghost use Rattle.plain_dumps.specs.Addresses.{addresses};

@@ -8,7 +8,7 @@ use Rattle.heap_graph.specs.declared.names.Shape.{Shape}
 use Rattle.heap_graph.specs.declared.names.Shape.TheVariants.{Instance, Array}
 use Rattle.heap_graph.specs.Graph.{Graph, Object, size_of_object}
 use Rattle.heap_graph.specs.Sizes.{is_primitive_array, is_too_large, most_bytes, size_in, unrounded}
-use Rattle.heap_world.specs.Formed.{AreObjects, AreRising, IsFormed, IsShape}
+use Rattle.heap_graph.specs.Formed.{AreObjects, AreRising, IsFormed, IsShape}
 use Rattle.plain_graph.specs.Shapes.{AreSmall, HasClass}
 
 pub HasClass-shape : (cs : List Class) (shape : Shape) → IsShape cs shape → HasClass cs shape

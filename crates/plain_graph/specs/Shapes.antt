@@ -5,7 +5,7 @@ use Rattle.class_layout.specs.ClassList.{Class}
 use Rattle.heap_graph.specs.declared.names.Shape.{Shape}
 use Rattle.heap_graph.specs.declared.names.Shape.TheVariants.{Instance, Array}
 use Rattle.heap_graph.specs.Graph.{Object}
-use Rattle.heap_world.specs.Formed.{AreObjects}
+use Rattle.heap_graph.specs.Formed.{AreObjects}
 
 -- the class of an instance stands; an array has none
 abbrev pub HasClass : List Class → Shape → Type 0

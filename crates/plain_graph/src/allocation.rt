@@ -3,7 +3,7 @@ ghost use Rattle.model_numbers.specs.Numbers.{image_length, number_limit};
 ghost use Rattle.heap_graph.specs.Allocation.{has_room, heap_place, make, make_collected, make_in_image, make_sealed, needs, with_heap_object, with_object};
 ghost use Rattle.heap_graph.specs.Graph.{image_fill};
 ghost use Rattle.heap_graph.specs.Sizes.{is_too_large, size_in};
-ghost use Rattle.heap_world.specs.Formed.{IsFormed};
+ghost use Rattle.heap_graph.specs.Formed.{IsFormed};
 ghost use Rattle.plain_graph.specs.Allocated.{allocated_of};
 ghost use Rattle.plain_graph.specs.Shapes.{HasClass};
 

@@ -1,7 +1,7 @@
 ghost use Rattle.std.specs.Prelude.{◌≡◌, ◌*◌, ◌^◌, ◌<◌, ◌≤◌, length, map, sum};
 ghost use Rattle.model_numbers.specs.Numbers.{most_array_bytes, number_limit};
 ghost use Rattle.heap_graph.specs.Graph.{greatest, image_fill, image_size, zygote_end, zygote_fill};
-ghost use Rattle.heap_world.specs.Formed.{IsFormed};
+ghost use Rattle.heap_graph.specs.Formed.{IsFormed};
 ghost use Rattle.plain_graph.specs.Shapes.{AreSmall, HasClass};
 
 use crate::sizes::size_in;

@@ -3,7 +3,7 @@ ghost use Rattle.std.specs.Prelude.{◌≡◌, ◌+◌, ◌^◌, ◌<◌, ◌≤
 ghost use Rattle.model_numbers.specs.Numbers.{zygote_length};
 ghost use Rattle.heap_graph.specs.Fork as fork;
 ghost use Rattle.heap_graph.specs.Graph.{size_of_object};
-ghost use Rattle.heap_world.specs.Formed.{IsFormed};
+ghost use Rattle.heap_graph.specs.Formed.{IsFormed};
 ghost use Rattle.plain_graph.specs.Shapes.{AreSmall, HasClass};
 ghost use Rattle.plain_graph.specs.Spots.{young_bytes};
 

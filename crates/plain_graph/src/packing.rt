@@ -3,7 +3,7 @@ ghost use Rattle.std.specs.List.{All};
 ghost use Rattle.model_numbers.specs.Numbers.{region_bytes, most_array_bytes, number_limit};
 ghost use Rattle.heap_graph.specs.Graph.{is_young, size_of_object};
 ghost use Rattle.heap_graph.specs.Packing.{after, cost, costs, end_from, end_of, free, place, places_from, used, young_sizes};
-ghost use Rattle.heap_world.specs.Formed.{IsFormed};
+ghost use Rattle.heap_graph.specs.Formed.{IsFormed};
 ghost use Rattle.heap_world.specs.Pages.{all_covered, covered};
 ghost use Rattle.plain_graph.specs.Shapes.{AreSmall, HasClass};
 

@@ -6,7 +6,7 @@ use Rattle.std.proofs.lemmas.List.{map-append, take_more}
 use Rattle.std.proofs.lemmas.List.Sums.{sum_by-append}
 use Rattle.class_layout.specs.Names.{same_name}
 use Rattle.heap_world.specs.World.{Process, live, process_named}
-use Rattle.plain_machine.specs.Counts.{objects_in, objects_in_any}
+use Rattle.heap_world.specs.Counts.{objects_in, objects_in_any}
 use Rattle.plain_machine.proofs.Live.{live-append}
 
 abbrev objects : List Process → ℕ

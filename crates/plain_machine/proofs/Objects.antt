@@ -3,7 +3,7 @@ use Rattle.std.proofs.Common.{◌≡◌, ℕ, Bool, true, false, cond, List, [],
 use Rattle.std.specs.List.{find}
 use Rattle.class_layout.specs.ClassList.{Class}
 use Rattle.heap_graph.specs.Graph.{Graph, Object, object_at}
-use Rattle.heap_world.specs.Formed.{AreObjects, IsFormed, IsShape}
+use Rattle.heap_graph.specs.Formed.{AreObjects, IsFormed, IsShape}
 
 -- an object that is found has a shape that stands
 shape_found : (cs : List Class) (p : Object → Bool) (os : List Object) (o : Object) → AreObjects cs os → find p os ≡ Some o → IsShape cs o.shape

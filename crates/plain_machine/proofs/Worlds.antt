@@ -11,7 +11,8 @@ use Rattle.heap_world.specs.Part.{Part}
 use Rattle.heap_world.specs.Sound.{IsSound}
 use Rattle.heap_world.specs.World.{Process, World, child_process, process_named, put_if, put_process}
 use Rattle.heap_world.proofs.Processes.{apart-symm, or_false, put, taken, taken-more}
-use Rattle.plain_machine.specs.Worlds.{AreNamedApart, ArePossible, AreSound}
+use Rattle.world_laws.specs.Worlds.{AreNamedApart}
+use Rattle.plain_machine.specs.Worlds.{ArePossible, AreSound}
 
 -- nothing stands behind the last one
 get_past : (qs : List Process) (i : ℕ) → length qs ≤ i → slice_get qs i ≡ None

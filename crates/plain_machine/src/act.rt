@@ -1,7 +1,7 @@
 //! A command of a process.
 ghost use Rattle.std.specs.Prelude.{IfOk};
 ghost use Rattle.heap_world.specs.Acts.{act};
-ghost use Rattle.heap_world.specs.Formed.{HasFewFields};
+ghost use Rattle.heap_world.specs.Commands.{HasFewFields};
 ghost use Rattle.heap_world.specs.Sound.{IsSound};
 ghost use Rattle.plain_machine.specs.Outcomes.{IsOutcome};
 

@@ -4,8 +4,8 @@ ghost use Rattle.std.specs.List.{list_any};
 ghost use Rattle.std.specs.Option.{option_copied};
 ghost use Rattle.class_layout.specs.Names.{same_name};
 ghost use Rattle.heap_world.specs.World.{World, live, process_named};
-ghost use Rattle.plain_machine.specs.Counts.{objects_in, objects_of};
-ghost use Rattle.plain_machine.specs.Counts as counts;
+ghost use Rattle.heap_world.specs.Counts.{objects_in, objects_of};
+ghost use Rattle.heap_world.specs.Counts as counts;
 
 use crate::process::Process;
 use class_layout::Name;

@@ -2,7 +2,7 @@
 ghost use Rattle.std.specs.Prelude.{◌≡◌, [], ◌∷◌, ◌++◌, ◌+◌, ◌*◌, ◌^◌, ◌≤◌, length, map, nat_eq, sum, IfOk, OnOk};
 ghost use Rattle.std.specs.List.{flat_map, list_any};
 ghost use Rattle.std.specs.Option.{option_copied};
-ghost use Rattle.heap_world.specs.Formed.{IsFormed};
+ghost use Rattle.heap_graph.specs.Formed.{IsFormed};
 ghost use Rattle.heap_world.specs.Pages.{distinct, large_page_count, own_page_count, standing_pages, young_page_count};
 ghost use Rattle.heap_world.specs.Sound.{IsSound};
 ghost use Rattle.heap_world.specs.World.{distinct_labels, frame_count, label_of, live, same_label, some_labels, standing_labels};

@@ -6,7 +6,7 @@ ghost use Rattle.heap_graph.specs.Collection.{collect, loose_count};
 ghost use Rattle.heap_graph.specs.Packing.{free};
 ghost use Rattle.heap_world.specs.Acts.{fork_part, fork_to, fork_pages, gc_if, gc_to, page_counts, seal_if};
 ghost use Rattle.heap_world.specs.Effect.{tells};
-ghost use Rattle.heap_world.specs.Formed.{IsFormed};
+ghost use Rattle.heap_graph.specs.Formed.{IsFormed};
 ghost use Rattle.heap_world.specs.Pages.{image_pages, pages_if_promoted, promoted_pages, zygote_pages};
 ghost use Rattle.heap_world.specs.Sound.{IsSound};
 ghost use Rattle.heap_world.specs.declared.reply.Reply.TheVariants as reply;

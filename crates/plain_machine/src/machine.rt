@@ -3,15 +3,18 @@ ghost use Rattle.std.specs.List.{list_any, position};
 ghost use Rattle.std.specs.Option.{option_copied};
 ghost use Rattle.model_numbers.specs.Numbers.{most_regions, number_limit};
 ghost use Rattle.class_layout.specs.Names.{same_name};
-ghost use Rattle.heap_world.specs.Formed.{HasFewFields, IsFormed};
+ghost use Rattle.heap_graph.specs.Formed.{IsFormed};
+ghost use Rattle.heap_world.specs.Commands.{HasFewFields};
 ghost use Rattle.heap_world.specs.Sound.{IsSound};
 ghost use Rattle.heap_world.specs.World.{World, child_process, empty_world, first_world, fork_if, frame_count, put_process, step, step_live, step_process, stepped};
 ghost use Rattle.heap_world.specs.Isolation.{is_frames};
 ghost use Rattle.heap_world.specs.World as worlds;
 ghost use Rattle.heap_world.specs.declared.reply.Reply.{Reply};
 ghost use Rattle.heap_world.specs.Acts.{act};
-ghost use Rattle.plain_machine.specs.Counts as counts;
-ghost use Rattle.plain_machine.specs.Worlds.{Does, StandsFor, forked_child};
+ghost use Rattle.heap_world.specs.Counts as counts;
+ghost use Rattle.plain_machine.specs.Worlds.{Does, StandsAmong, StandsFor, forked_child};
+ghost use Rattle.world_laws.specs.Labels.{AreEarlier};
+ghost use Rattle.world_laws.specs.Wanting.{left_worlds};
 
 use crate::counts::{graph_in, is_live, live_count, live_named, live_objects, objects_in};
 use crate::frames::frame_count;
@@ -34,9 +37,9 @@ impl Model for Machine {
     ghost use Rattle.heap_world.specs.Isolation.{is_frames};
     ghost use Rattle.heap_world.specs.World as worlds;
     ghost use Rattle.heap_world.specs.declared.reply.Reply.{Reply};
-    ghost use Rattle.plain_machine.specs.Worlds.{ArePossible};
+    ghost use Rattle.plain_machine.specs.Worlds.{ArePossible, Meaning};
 
-    ghost Value = { worlds.World };
+    ghost Value = { Meaning };
 
     ghost view = { λ m. record { processes = m.processes.items } };
 
@@ -253,12 +256,15 @@ impl Machine {
         }
     }
 
-    /// Runs the command of a line, and gives the reply. After `AllocError` nothing has changed.
+    /// Runs the command of a line, and gives the reply. The line's number is greater than that of each label of the world
+    /// that the machine stands for. After `AllocError` nothing has changed. What a caller may rely on is less: that the
+    /// machine stands for one of the worlds that want of memory may leave.
     #[tactic(auto, unfolding(crate::specs::Worlds::StandsFor))]
     pub fn step(&mut self, line: u64, command: &Command) -> Result<Reply, AllocError>
         requires few { HasFewFields command.now.verb }
-        ensures reply { (w : World) → StandsFor self.old w → IfOk result (λ reply. reply ≡ (step w line command.now).reply) }
-        ensures world { (w : World) → StandsFor self.old w → OnOk result (StandsFor self.new (step w line command.now).world) }
+        ensures reply { (w : World) → StandsFor self.old w → AreEarlier line w → IfOk result (λ reply. reply ≡ (step w line command.now).reply) }
+        ensures world { (w : World) → StandsFor self.old w → AreEarlier line w → OnOk result (StandsFor self.new (step w line command.now).world) }
+        ensures left { (w : World) → StandsFor self.old w → AreEarlier line w → OnErr result (StandsAmong self.new (left_worlds w line command.now)) }
         ensures err { (w : World) → StandsFor self.old w → OnErr result (StandsFor self.new w) }
     {
         self.step_line(line, command)

@@ -1,7 +1,7 @@
 ghost use Rattle.std.specs.Prelude.{◌≡◌, ◌++◌, [], true, IfOk, IfSome, OnOk, unwrap_or};
 ghost use Rattle.heap_world.specs.World.{child_process, labelled};
 ghost use Rattle.heap_world.specs.Acts.{act, fork_part};
-ghost use Rattle.heap_world.specs.Formed.{HasFewFields};
+ghost use Rattle.heap_world.specs.Commands.{HasFewFields};
 ghost use Rattle.heap_world.specs.Sound.{IsSound};
 ghost use Rattle.plain_machine.specs.Outcomes.{IsOutcome};
 ghost use Rattle.plain_machine.specs.Worlds.{first_process};

@@ -3,7 +3,7 @@ ghost use Rattle.std.specs.Prelude.{◌≡◌, ℕ, List, Ok, Err, IfOk, MatchRe
 ghost use Rattle.heap_graph.specs.Values.{value_at};
 ghost use Rattle.heap_world.specs.Acts.{array_name, copy_root, drop_held, get_element, get_field, held_reply, load_element, load_field, load_slot, shape_name, show_root, shown, slot_reply, write_held};
 ghost use Rattle.heap_world.specs.Effect.{effect_or, tells};
-ghost use Rattle.heap_world.specs.Formed.{IsShape};
+ghost use Rattle.heap_graph.specs.Formed.{IsShape};
 ghost use Rattle.heap_world.specs.Sound.{IsSound};
 ghost use Rattle.plain_machine.specs.Outcomes.{IsOutcome};
 

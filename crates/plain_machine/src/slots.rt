@@ -4,7 +4,7 @@ ghost use Rattle.class_layout.specs.Kinds.{is_ref};
 ghost use Rattle.heap_graph.specs.Sizes.{is_too_large};
 ghost use Rattle.heap_graph.specs.declared.names.Shape.{Shape};
 ghost use Rattle.heap_graph.specs.Values as values;
-ghost use Rattle.heap_world.specs.Formed.{IsShape};
+ghost use Rattle.heap_graph.specs.Formed.{IsShape};
 ghost use Rattle.heap_world.specs.Slots.{named_by, object_held, only_reference, slot_indexed, slot_named, stored_value};
 ghost use Rattle.heap_world.specs.Sound.{IsSound};
 

@@ -10,7 +10,7 @@ use Rattle.class_layout.specs.Placing.{IsIn}
 use Rattle.cow_pages.specs.declared.address.Addr.{Addr}
 use Rattle.heap_graph.specs.Graph.{Graph, Object, object_at}
 use Rattle.heap_graph.specs.Table.{Fits}
-use Rattle.heap_world.specs.Formed.{IsFormed}
+use Rattle.heap_graph.specs.Formed.{IsFormed}
 use Rattle.address_table.specs.Computed.{first_homes}
 use Rattle.address_table.proofs.Fitting.{none-at-null}
 use Rattle.plain_view.specs.Viewed.{address_at, at_address, first_table}

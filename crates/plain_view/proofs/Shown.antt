@@ -16,12 +16,13 @@ use Rattle.heap_graph.specs.Reach.{is_among}
 use Rattle.heap_graph.specs.Sizes.{is_too_large}
 use Rattle.heap_graph.specs.Table.{Fits}
 use Rattle.heap_graph.specs.Values.{slot_of}
-use Rattle.heap_world.specs.Formed.{AreObjects, AreRising, AreSlots, IsFormed, IsShape}
+use Rattle.heap_graph.specs.Formed.{AreRising, IsFormed, IsShape}
 use Rattle.heap_world.proofs.FormedAims.{Aims, RootsAim, closed_roots}
 use Rattle.address_table.specs.Computed.{first_homes}
 use Rattle.address_table.proofs.Fitting.{fits, object-not-null}
 use Rattle.address_table.proofs.Homes.{suffice}
 use Rattle.object_view.specs.Objects.{IsKnown}
+use Rattle.heap_graph.proofs.Places.{object-in}
 use Rattle.object_view.specs.Seen.{root_address, IsShown}
 use Rattle.plain_view.specs.Viewed.{first_table}
 
@@ -38,12 +39,6 @@ rises low next (o ∷ os) zero (suc j) a b rising less at_i at_j =
     let above = rises-from (o.number + 1) next os j b rising.1 at_j in
     subst (λ (x : Object). x.number < b.number) (same_Some o a at_i) (omega (arith, above))
 rises low next (o ∷ os) (suc i) (suc j) a b rising less at_i at_j = rises (o.number + 1) next os i j a b rising.1 (omega (arith, less)) at_i at_j
-
--- what is known of one object
-pub object-in : (cs : List Class) (os : List Object) (o : Object) → AreObjects cs os → IsIn o os → IsShape cs o.shape × AreSlots cs o.shape o.slots
-object-in cs [] o all none = absurd none
-object-in cs (x ∷ os) o all (inl e) = subst (λ (y : Object). IsShape cs y.shape × AreSlots cs y.shape y.slots) e (all.0, all.1)
-object-in cs (x ∷ os) o all (inr h) = object-in cs os o all.2 h
 
 known : (cs : List Class) (shape : Shape) → IsShape cs shape → IsKnown cs shape
 known cs (Instance class) h = h.0

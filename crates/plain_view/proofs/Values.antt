@@ -1,56 +1,23 @@
 -- What stands at a place of an object is a value of the place's kind.
-use Rattle.std.proofs.Common.{◌≡◌, ℕ, ◌^◌, ◌<◌, length, get_or, map, slice_index, inl, inr, Bool, true, false, true≢false, ◌&&◌, List, [], ◌∷◌, nat_eq, nat_le, refl, sym, ap, subst, ◌∙◌, arith}
+use Rattle.std.proofs.Common.{◌≡◌, ℕ, ◌^◌, ◌<◌, length, get_or, map, slice_index, true, false, true≢false, ◌&&◌, List, [], ◌∷◌, nat_eq, nat_le, sym, ap, subst, ◌∙◌, arith}
 use Rattle.std.specs.Prelude.{ℤ, pos, IsTrue}
-use Rattle.std.specs.List.{AllByRecursion}
-use Rattle.std.proofs.lemmas.Bool.{eqb-true, le-leb}
+use Rattle.std.proofs.lemmas.Bool.{le-leb}
 use Rattle.class_layout.specs.declared.kind.Kind.{Kind}
 use Rattle.class_layout.specs.declared.kind.Kind.TheVariants.{Ref, Boolean, Byte, Char, Short, Int, Long}
 use Rattle.class_layout.specs.declared.kind.FieldAt.{FieldAt}
-use Rattle.class_layout.specs.ClassList.{Class, layout_of}
 use Rattle.class_layout.specs.Kinds.{in_range, is_ref}
-use Rattle.class_layout.specs.Placing.{IsIn}
 use Rattle.heap_graph.specs.declared.names.Content.{Content}
 use Rattle.heap_graph.specs.declared.names.Content.TheVariants as content
-use Rattle.heap_graph.specs.declared.names.Shape.{Shape}
-use Rattle.heap_graph.specs.declared.names.Shape.TheVariants.{Instance, Array}
 use Rattle.heap_graph.specs.declared.names.Stored.{Stored}
 use Rattle.heap_graph.specs.Graph.{Graph, Object}
 use Rattle.heap_graph.specs.Values.{empty_slot, value_at, value_if}
-use Rattle.heap_world.specs.Formed.{AreSlots, FitsKind, HasSlot, HoldsValues, IsFormed}
-use Rattle.object_view.specs.Objects.{elements_from, places_of}
+use Rattle.heap_graph.specs.Formed.{FitsKind, IsFormed}
 use Rattle.object_view.specs.Seen.{seen_value, value_in, HasValue}
 use Rattle.object_view.specs.Values.{is_value}
-use Rattle.object_view.proofs.Laid.{element-in, found-in, one-place, ref-kind}
+use Rattle.heap_graph.proofs.Places.{value-fits as suits}
+use Rattle.object_view.proofs.Laid.{ref-kind}
 use Rattle.plain_view.specs.Viewed.{first_table}
 use Rattle.plain_view.proofs.Found.{object-there}
-use Rattle.plain_view.proofs.Shown.{object-in}
-
--- a slot is a place of the shape
-slot-place : (cs : List Class) (shape : Shape) (at : FieldAt) → HasSlot cs shape at → IsIn at (places_of cs shape)
-slot-place cs (Instance class) at (name, e) = found-in (layout_of cs class).fields name at e
-slot-place cs (Array kind count) at (i, less, e) = subst (λ (p : FieldAt). IsIn p (elements_from kind 0 count)) (sym e) (element-in kind 0 count i (omega arith) (omega (arith, less)))
-
--- null and 0 are values
-empty-fits : (kind : Kind) → FitsKind kind (empty_slot (is_ref kind))
-empty-fits Ref = refl
-empty-fits Boolean = refl
-empty-fits Byte = refl
-empty-fits Char = refl
-empty-fits Short = refl
-empty-fits Int = refl
-empty-fits Long = refl
-
--- what stands at a place, given what was stored, is of its kind
-stored-fits : (cs : List Class) (shape : Shape) (place : FieldAt) (ss : List Stored) → IsIn place (places_of cs shape) → AreSlots cs shape ss
-    → AllByRecursion (λ s. FitsKind s.at.kind s.value) ss → FitsKind place.kind (value_at ss place)
-stored-fits cs shape place [] there slots fit = empty-fits place.kind
-stored-fits cs shape place (s ∷ ss) there slots fit = by (nat_eq s.at.offset place.offset) refl (stored-fits cs shape place ss there slots.2 fit.1)
-  where
-    by : (b : Bool) → nat_eq s.at.offset place.offset ≡ b → FitsKind place.kind (value_at ss place) → FitsKind place.kind (value_if b s.value (value_at ss place))
-    by true is rest =
-        let same : s.at ≡ place = one-place cs shape s.at place (slot-place cs shape s.at slots.0) there (eqb-true s.at.offset place.offset is) in
-        subst (λ (p : FieldAt). FitsKind p.kind s.value) same fit.0
-    by false is rest = rest
 
 -- a number in the range of a kind is a value of it
 number-value : (kind : Kind) (z : ℤ) → in_range kind z ≡ true → is_value kind z ≡ true
@@ -73,16 +40,11 @@ seen-fits table kind (content.Number z) below h = number-value kind z h
 seen-fits table kind content.Null below h = reference-value kind 0 h (omega arith)
 seen-fits table kind (content.Object n) below h = reference-value kind (table n) h (below n)
 
-held-in : (os : List Object) (o : Object) → AllByRecursion HoldsValues os → IsIn o os → HoldsValues o
-held-in [] o all none = absurd none
-held-in (x ∷ os) o all (inl e) = subst HoldsValues e all.0
-held-in (x ∷ os) o all (inr h) = held-in os o all.1 h
-
 -- the value at a place is one of its kind
 pub value-fits : (g : Graph) (table : ℕ → ℕ) (at : ℕ) (kind : Kind) (offset : ℕ) (o : Object) (place : FieldAt) → IsFormed g → ((n : ℕ) → table n < 2 ^ 32)
     → HasValue g table at kind offset o place → IsTrue (is_value kind (value_in table o place))
 value-fits g table at kind offset o place formed below has =
-    let fit = stored-fits g.classes o.shape place o.slots has.is_place.is_in (object-in g.classes g.objects o formed.objects has.is_in).1 (held-in g.objects o formed.values has.is_in) in
+    let fit = suits g o place formed has.is_in has.is_place.is_in in
     subst (λ (k : Kind). is_value k (value_in table o place) ≡ true) has.is_place.kind_is (seen-fits table place.kind (value_at o.slots place) below fit)
 
 -- a kind and an offset tell what stands there

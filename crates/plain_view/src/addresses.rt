@@ -2,7 +2,7 @@
 ghost use Rattle.std.specs.Prelude.{◌≡◌, ◌*◌, ◌^◌, ◌<◌, ◌≤◌, ℕ, IfOk, map};
 ghost use Rattle.address_table.specs.Computed.{address_in, addresses_from, end_behind, first_homes, large_behind, large_count, table_of};
 ghost use Rattle.address_table.proofs.Behind.{last_end};
-ghost use Rattle.heap_world.specs.Formed.{AreObjects, IsFormed, IsShape};
+ghost use Rattle.heap_graph.specs.Formed.{AreObjects, IsFormed, IsShape};
 ghost use Rattle.model_numbers.specs.Numbers.{large_slot_count, most_regions, region_bytes};
 
 use class_layout::Classes;

@@ -1,6 +1,6 @@
 ghost use Rattle.std.specs.Prelude.{◌≡◌, ◌<◌, ℕ, IfOk, IsTrue, length, nat_eq, slice_index};
 ghost use Rattle.std.specs.List.{position};
-ghost use Rattle.heap_world.specs.Formed.{IsFormed};
+ghost use Rattle.heap_graph.specs.Formed.{IsFormed};
 ghost use Rattle.object_view.specs.Seen.{heap_of, seen_value, value_in, HasValue};
 ghost use Rattle.object_view.specs.Values.{is_value};
 ghost use Rattle.class_layout.specs.declared.kind.FieldAt as fields;
@@ -26,7 +26,7 @@ pub struct View<'a> {
 
 impl<'a> Model for View<'a> {
     ghost use Rattle.std.specs.Prelude.{◌≡◌, ◌≤◌, length, map};
-    ghost use Rattle.heap_world.specs.Formed.{IsFormed};
+    ghost use Rattle.heap_graph.specs.Formed.{IsFormed};
     ghost use Rattle.plain_view.specs.Viewed.{first_table, Viewed};
 
     ghost Value = { Viewed };

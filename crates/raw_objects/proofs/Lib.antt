@@ -2,3 +2,4 @@ pub mod Raws
 pub mod Kept
 pub mod Paging
 pub mod Turned
+pub mod Uncounted

@@ -15,9 +15,11 @@ use Rattle.heap_graph.specs.declared.names.Shape.{Shape}
 use Rattle.heap_graph.specs.Sizes.{size_in}
 use Rattle.object_view.specs.declared.names.Slot.{Slot}
 use Rattle.object_view.specs.Changes.{PutsNumber}
-use Rattle.object_view.specs.Objects.{places_of, reference_count, reference_place, slot_at, IsObject, IsPlace, Stands}
+use Rattle.heap_graph.specs.Places.{places_of}
+use Rattle.object_view.specs.Objects.{reference_count, reference_place, slot_at, IsObject, IsPlace, Stands}
 use Rattle.object_view.specs.Values.{is_value, number_of}
-use Rattle.object_view.proofs.Laid.{bytes-low, one-place, place-within, ref-kind, reference-in, references-rise}
+use Rattle.heap_graph.proofs.Places.{bytes-low, one-place}
+use Rattle.object_view.proofs.Laid.{place-within, ref-kind, reference-in, references-rise}
 use Rattle.object_view.proofs.Lookups.{address-fits, SameView-reads}
 use Rattle.object_view.proofs.Standing.{HasHeader-stands, HasShape-stands}
 use Rattle.object_view.proofs.Stores.{loaded}

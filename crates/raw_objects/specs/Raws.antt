@@ -9,7 +9,8 @@ use Rattle.heap_graph.specs.declared.names.Shape.{Shape}
 use Rattle.heap_graph.specs.Sizes.{size_in}
 use Rattle.object_view.specs.declared.names.Header.{Header}
 use Rattle.object_view.specs.declared.names.Header.TheVariants.{Number, Forward}
-use Rattle.object_view.specs.Objects.{places_of, IsKnown, Stands}
+use Rattle.heap_graph.specs.Places.{places_of}
+use Rattle.object_view.specs.Objects.{IsKnown, Stands}
 use Rattle.object_view.specs.Values.{no_values, with_value}
 
 -- an object: its shape, its number or where it went, and the values at its places

@@ -11,7 +11,8 @@ use Rattle.cow_pages.specs.View.{View}
 use Rattle.heap_graph.specs.declared.names.Shape.{Shape}
 use Rattle.object_view.specs.declared.names.Header.{Header}
 use Rattle.object_view.specs.declared.names.Header.TheVariants.{Number, Forward}
-use Rattle.object_view.specs.Objects.{places_of, reference_count, reference_place, HasHeader}
+use Rattle.heap_graph.specs.Places.{places_of}
+use Rattle.object_view.specs.Objects.{reference_count, reference_place, HasHeader}
 use Rattle.raw_objects.specs.Raws.{HoldsRaws, Raw, Raws}
 
 -- the address lies in the window of regions

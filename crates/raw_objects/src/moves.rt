@@ -1,10 +1,10 @@
 //! Objects that move, and the references to them.
-ghost use Rattle.std.specs.Prelude.{◌≡◌, ◌⊎◌, ◌||◌, ℕ, ◌+◌, ◌%◌, ◌<◌, ◌≤◌, Bool, true, false, nat_eq, IsTrue, IsOk, OnOk, OnErr, List};
+ghost use Rattle.std.specs.Prelude.{◌≡◌, ◌⊎◌, ◌||◌, ℕ, ◌+◌, ◌/◌, ◌%◌, ◌<◌, ◌≤◌, Bool, true, false, nat_eq, IsTrue, IsOk, OnOk, OnErr, List};
 ghost use Rattle.class_layout.specs.ClassList.{Class};
 ghost use Rattle.cow_pages.specs.Address.{page_of};
 ghost use Rattle.cow_pages.specs.Memory.{is_mapped, HasOneSharer, IsSound};
 ghost use Rattle.cow_pages.specs.View.{view_of};
-ghost use Rattle.object_view.specs.Changes.{pages_in, AreAlone};
+ghost use Rattle.object_view.specs.Changes.{pages_in, reads_after_all, steps_from, AreAlone};
 ghost use Rattle.object_view.specs.Objects.{IsSpace};
 ghost use Rattle.raw_objects.specs.Keeps.{Covers, Keeps};
 ghost use Rattle.raw_objects.specs.Raws.{evacuated, raw_size, HoldsRaws, IsFreeSpace, Raws};
@@ -36,6 +36,8 @@ pub fn evacuate(
         → IsFreeSpace cs raws to.0 size → HoldsRaws cs (view_of frames.new t.0) (evacuated raws from.0 to.0)) }
     ensures err { OnErr result ((cs : List Class) (raws : Raws) → HoldsRaws cs (view_of frames.old t.0) raws → IsFreeSpace cs raws to.0 size → HoldsRaws cs (view_of frames.new t.0) raws) }
     ensures keeps { (may : ℕ → Bool) → Covers may to.0 size → may (page_of from.0) ≡ true → Keeps frames.old frames.new t.0 may }
+    ensures reads { OnOk result (frames.new.reads ≡ reads_after_all frames.old.reads (steps_from from.0 (size / 8))) }
+    ensures fewer_reads { OnErr result ((n : ℕ) × (n ≤ size / 8) × (frames.new.reads ≡ reads_after_all frames.old.reads (steps_from from.0 n))) }
     ensures succeeds { AreAlone frames.old t.0 (page_of to.0) (pages_in to.0 (to.0 + size)) → HasOneSharer frames.old t.0 (page_of from.0) → IsOk result }
     ensures sound { IsSound frames.new }
 {
@@ -87,7 +89,8 @@ pub fn turn_slot(frames: &mut Frames, t: TableNo, at: Addr, target: Addr) -> Res
     Ok(())
 }
 
-/// Turns all references of an object, none of which is turned yet. After `AllocError` some first ones are turned.
+/// Turns all references of an object, none of which is turned yet. Where it stands in the regions, no read is counted.
+/// After `AllocError` some first ones are turned.
 pub fn turn_object(
     frames: &mut Frames,
     classes: &Classes,
@@ -101,6 +104,7 @@ pub fn turn_object(
         → (k : ℕ) × HoldsRaws classes.now (view_of frames.new t.0) (turned_where raws (λ b. is_first_reference classes.now (raws.raw at.0).shape at.0 k b || done b))) }
     ensures keeps { (raws : Raws) (done may : ℕ → Bool) → IsTurnable classes.now (view_of frames.old t.0) raws done at.0 → Covers may at.0 (raw_size classes.now raws at.0)
         → Keeps frames.old frames.new t.0 may }
+    ensures reads { in_regions at.0 ≡ true → frames.new.reads ≡ frames.old.reads }
     ensures succeeds { (raws : Raws) (done : ℕ → Bool) → IsTurnable classes.now (view_of frames.old t.0) raws done at.0
         → AreAlone frames.old t.0 (page_of at.0) (pages_in at.0 (at.0 + raw_size classes.now raws at.0)) → IsOk result }
     ensures sound { IsSound frames.old → IsSound frames.new }

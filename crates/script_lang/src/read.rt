@@ -1,6 +1,6 @@
 ghost use Rattle.std.specs.Prelude.{◌≡◌, ◌≤◌, length, IfOk, IfSome, is_some};
 ghost use Rattle.model_numbers.specs.Numbers.{line_limit};
-ghost use Rattle.heap_world.specs.Formed.{HasFewFields};
+ghost use Rattle.heap_world.specs.Commands.{HasFewFields};
 ghost use Rattle.script_lang.specs.Forms.{decls_of};
 ghost use Rattle.script_lang.specs.Grammar.{class_line, verb_in, entries, begins_with_hash, line_meaning};
 ghost use Rattle.script_lang.specs.Reading.{ReadsFields, ReadsVerb, ReadsLine};

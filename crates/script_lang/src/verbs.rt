@@ -1,5 +1,5 @@
 ghost use Rattle.std.specs.Prelude.{◌≡◌, ◌∷◌, [], IfSome};
-ghost use Rattle.heap_world.specs.Formed.{HasFewFields};
+ghost use Rattle.heap_world.specs.Commands.{HasFewFields};
 ghost use Rattle.heap_world.specs.declared.command.Verb.TheVariants as verb;
 ghost use Rattle.script_lang.specs.Numbers.{count_of};
 ghost use Rattle.script_lang.specs.Forms.{root_of, class_of, field_of, kind_of, value_of};

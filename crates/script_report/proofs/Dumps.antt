@@ -1,5 +1,5 @@
 -- A live process that a name finds is found among the live ones.
-use Rattle.std.proofs.Common.{◌≡◌, ℕ, Bool, true, false, cond, not, List, [], ◌∷◌, Option, Some, refl, ap, ◌∙◌}
+use Rattle.std.proofs.Common.{◌≡◌, ℕ, Bool, true, false, cond, not, List, [], ◌∷◌, Some, refl, ap, ◌∙◌}
 use Rattle.std.proofs.lemmas.Bool.{both_ways}
 use Rattle.class_layout.specs.Names.{same_name}
 use Rattle.heap_world.specs.World.{Process, live, process_named}

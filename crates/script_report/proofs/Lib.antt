@@ -5,3 +5,4 @@ pub mod OwnText
 pub mod OwnTold
 pub mod Picked
 pub mod Reports
+pub mod Wanting

@@ -1,3 +1,4 @@
 pub mod Dumps
 pub mod Own
 pub mod Report
+pub mod Wanting

@@ -1,11 +1,14 @@
 //! Laws of the report: what it says of the commands of a script, and of each process's own lines.
-ghost use Rattle.std.specs.Prelude.{◌≡◌, ℕ, ◌+◌, ◌*◌, List, map};
+ghost use Rattle.std.specs.Prelude.{◌≡◌, ℕ, ◌+◌, ◌*◌, List, length, map};
+ghost use Rattle.class_layout.specs.Placing.{IsIn};
 ghost use Rattle.script_report.specs.Own.{AreAloneIn, answers_to, bad_lines, commands_from, numbers, told_by_script};
-ghost use Rattle.script_report.specs.Report.{allowance_from, answers, answers_from, last_world, world_after};
+ghost use Rattle.script_report.specs.Report.{allowance_from, answers, answers_from, last_world, world_after, world_of};
+ghost use Rattle.script_report.specs.Wanting.{left_between};
 ghost use Rattle.heap_world.specs.Effect.{line_reads};
 ghost use Rattle.heap_world.specs.Isolation.{NoNameTaken};
 ghost use Rattle.heap_world.specs.Run as run;
 ghost use Rattle.heap_world.specs.World.{World};
+ghost use Rattle.world_laws.specs.Labels.{AreEarlier};
 
 use heap_world::processes_are_isolated;
 
@@ -33,3 +36,10 @@ pub fn scripts_are_isolated()
 {
     processes_are_isolated();
 }
+
+/// Before each line of a script the labels of all processes are of lines before it, so that the line's number is greater.
+/// Where memory is wanting for the line, the world before it is one that may be left.
+pub fn lines_come_after_all_labels()
+    ensures earlier { (budget : ℕ) (before : List (List ℕ)) → AreEarlier (1 + length before) (world_of budget before) }
+    ensures left { (budget : ℕ) (before rest : List (List ℕ)) → IsIn (world_of budget before) (left_between budget before rest) }
+{}

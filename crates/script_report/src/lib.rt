@@ -5,4 +5,4 @@ mod examples;
 mod laws;
 mod own_examples;
 
-pub use laws::{commands_are_answered, scripts_are_isolated};
+pub use laws::{commands_are_answered, lines_come_after_all_labels, scripts_are_isolated};

@@ -10,7 +10,7 @@ use Rattle.heap_world.specs.declared.command.Verb.TheVariants as verb
 use Rattle.heap_world.specs.Acts.{dump_counted, dump_if, dump_to}
 use Rattle.heap_world.specs.World.{Process, World, process_after, process_named, put_process, step, step_found, step_live, stepped}
 use Rattle.heap_world.proofs.Processes.{named-put, named_name}
-use Rattle.plain_machine.specs.Counts.{graph_in_any}
+use Rattle.heap_world.specs.Counts.{graph_in_any}
 use Rattle.script_report.specs.Dumps.{Dumping, dumping_asked, dumping_of, dumping_stepped}
 use Rattle.script_report.proofs.Dumps.{live-named}
 use Rattle.script_run.specs.Dumps.{AreDumped, HasEntry, HasEntryPart, HasShelved, HasShelvedPart, IsAsked, dump_entries, dump_entry, dumped_by, map_entry}

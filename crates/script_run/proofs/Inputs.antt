@@ -1,14 +1,14 @@
 -- A run of a script from a source: how it begins, goes on, ends, and stops.
-use Rattle.std.proofs.Common.{◌≡◌, inl, inr, ℕ, ◌+◌, ◌<◌, ◌≤◌, Bool, true, false, List, [], ◌∷◌, ◌++◌, Option, Result, Ok, Err, MatchResult, length, map, take, drop, refl, sym, ◌∙◌, ap, subst, arith, append_assoc, length-append}
+use Rattle.std.proofs.Common.{◌≡◌, ◌⊎◌, inl, inr, ℕ, ◌+◌, ◌<◌, ◌≤◌, Bool, true, false, List, [], ◌∷◌, ◌++◌, Option, Result, Ok, Err, MatchResult, length, map, take, drop, refl, sym, ◌∙◌, ap, subst, arith, append_assoc, length-append}
 use Rattle.std.specs.Prelude.{nat_lt}
 use Rattle.std.proofs.lemmas.Bool.{ltb-false}
 use Rattle.std.proofs.lemmas.List.{append-nil, take-append-drop}
 use Rattle.std.proofs.Math.Seq.{take-append-add}
 use Rattle.ah_outside.specs.Outside.{FaultRose, Gave}
 use Rattle.heap_world.specs.Isolation.{NoNameTaken}
-use Rattle.heap_world.specs.World.{World, first_world}
+use Rattle.heap_world.specs.World.{empty_world, first_world}
 use Rattle.model_numbers.specs.Numbers.{input_limit, piece_bytes}
-use Rattle.plain_machine.specs.Worlds.{StandsFor}
+use Rattle.plain_machine.specs.Worlds.{Meaning, StandsFor}
 use Rattle.script_lang.specs.Feeding.{Feed, fresh_feed}
 use Rattle.script_lang.specs.Parts.{lines, whole_lines}
 use Rattle.script_lang.proofs.PartsLemmas.{whole_lines-last}
@@ -26,7 +26,7 @@ use Rattle.script_run.proofs.Dumps.{shelved-none}
 use Rattle.job_status.proofs.Outside.{FaultRose-earlier, Gained-none, Gave-more, Gave-none}
 
 -- no line was run
-lines_begin : (s : Setting) (out : Output) (m : World) → out.shelved.unfinished ≡ false → StandsFor m (first_world s.budget 1) → HasRunLines s [] false out (record out { machine = m })
+lines_begin : (s : Setting) (out : Output) (m : Meaning) → out.shelved.unfinished ≡ false → StandsFor m (first_world s.budget 1) → HasRunLines s [] false out (record out { machine = m })
 lines_begin s out m finished stands = record {
   ran = record { report = Gained-none out.gained; dumps = shelved-none s.time out.shelved finished; stands = stands };
   refusals = refl;
@@ -39,7 +39,7 @@ abbrev pub started : Feed → Progress
 started feed = record { feed = feed; room = input_limit; refused = false }
 
 -- nothing was taken
-pub turns_begin : (s : Setting) (feed : Feed) (left : Option (List ℕ)) (reads : ℕ) (out : Output) (m : World)
+pub turns_begin : (s : Setting) (feed : Feed) (left : Option (List ℕ)) (reads : ℕ) (out : Output) (m : Meaning)
     → feed ≡ fresh_feed → out.shelved.unfinished ≡ false → StandsFor m (first_world s.budget 1)
     → HasTaken s (started feed) (outside_of left reads out) (outside_of left reads (record out { machine = m }))
 turns_begin s feed left reads out m fresh finished stands = record {
@@ -58,9 +58,9 @@ turns_begin s feed left reads out m fresh finished stands = record {
 }
 
 -- memory was wanting before the first line
-pub not_begun : (s : Setting) (left : Option (List ℕ)) (reads : ℕ) (out : Output) (m : World)
-    → StoppedForMemory s (outside_of left reads out) (outside_of left reads (record out { machine = m }))
-not_begun s left reads out m = inl (record { nothing_taken = refl; nothing_put = Gained-none out.gained; nothing_shelved = refl })
+pub not_begun : (s : Setting) (left : Option (List ℕ)) (reads : ℕ) (out : Output) (m : Meaning)
+    → StandsFor m empty_world ⊎ StandsFor m (first_world s.budget 1) → StoppedForMemory s (outside_of left reads out) (outside_of left reads (record out { machine = m }))
+not_begun s left reads out m stands = inl (record { nothing_taken = refl; nothing_put = Gained-none out.gained; nothing_shelved = refl; stands = stands })
 
 -- bytes were taken and run
 pub turn_goes_on : (s : Setting) (run run' : Progress) (bytes : List ℕ) (old mid new : Outside)

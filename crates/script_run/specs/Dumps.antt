@@ -9,7 +9,7 @@ use Rattle.heap_world.specs.declared.command.Verb.TheVariants as verb
 use Rattle.heap_world.specs.declared.reply.Reply.{Reply}
 use Rattle.heap_world.specs.declared.reply.Reply.TheVariants as reply
 use Rattle.heap_world.specs.World.{World}
-use Rattle.plain_machine.specs.Counts.{graph_of}
+use Rattle.heap_world.specs.Counts.{graph_of}
 use Rattle.hprof_records.specs.Records.{dump_bytes}
 use Rattle.hprof_write.specs.TableText.{table_text}
 use Rattle.hprof_write.specs.Written.{written}

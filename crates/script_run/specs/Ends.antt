@@ -3,10 +3,12 @@ use Rattle.std.specs.Prelude.{◌≡◌, ◌≢◌, ◌⊎◌, ℕ, ◌+◌, ◌
 use Rattle.ah_outside.specs.Outside.{FaultRose, Gave, Gained}
 use Rattle.model_numbers.specs.Numbers.{input_limit, piece_bytes}
 use Rattle.heap_world.specs.Isolation.{NoNameTaken}
-use Rattle.plain_machine.specs.Worlds.{StandsFor}
+use Rattle.heap_world.specs.World.{empty_world}
+use Rattle.plain_machine.specs.Worlds.{StandsAmong, StandsFor}
 use Rattle.script_lang.specs.Parts.{lines, whole_lines}
 use Rattle.script_report.specs.Own.{AreAloneIn, told_by_script}
 use Rattle.script_report.specs.Report.{answers, answers_of, dumps_of, has_refusal, last_world, line_dumps, line_report, report_of, world_of}
+use Rattle.script_report.specs.Wanting.{left_behind}
 use Rattle.job_status.specs.Inputs.{NothingLeft}
 use Rattle.job_status.specs.declared.status.Status.{Status}
 use Rattle.job_status.specs.declared.status.Status.TheVariants as status
@@ -86,7 +88,7 @@ pub record ShelvedBehind (s : Setting) (before : List (List ℕ)) (line : List �
   pub dumps : HasShelvedBut s.time (dumps_of s.budget before) (line_dumps s.budget before line) old.shelved new.shelved
 
 -- the next one asks for a dump, and the machine stands for the world after it
-pub record FailedShelf (s : Setting) (before : List (List ℕ)) (line : List ℕ) (old new : Output) : Type 0 where
+pub record DumpedInPart (s : Setting) (before : List (List ℕ)) (line : List ℕ) (old new : Output) : Type 0 where
   pub asked : line_dumps s.budget before line ≢ []
   pub put : ShelvedBehind s before line old new
   pub stands : StandsFor new.machine (world_of s.budget (before ++ line ∷ []))
@@ -103,24 +105,35 @@ pub record StoppedDumping (s : Setting) (old new : Outside) : Type 0 where
   pub before : List (List ℕ)
   pub line : List ℕ
   pub came : CameTo old new (before ++ line ∷ [])
-  pub put : FailedShelf s before line old.output new.output
+  pub put : DumpedInPart s before line old.output new.output
 
--- nothing was taken, and no line was run
-pub record NotBegun (old new : Outside) : Type 0 where
+-- nothing was taken, and no line was run: the machine is new, or stands for the world before the first line
+pub record NotBegun (s : Setting) (old new : Outside) : Type 0 where
   pub nothing_taken : new.left ≡ old.left
   pub nothing_put : Gained old.output.gained [] new.output.gained
   pub nothing_shelved : new.output.shelved.entries ≡ old.output.shelved.entries
+  pub stands : StandsFor new.output.machine empty_world ⊎ StandsFor new.output.machine (world_of s.budget [])
 
--- memory was wanting for a line behind those that were run, or for its dump
+-- the report of lines was put and the shelf has the entries of their dumps, and no more. Memory was wanting for the next
+-- one, and the machine stands for one of the worlds that it may leave
+pub record StoppedBefore (s : Setting) (before : List (List ℕ)) (line : List ℕ) (old new : Output) : Type 0 where
+  pub report : Gained old.gained (report_of (answers_of s.budget before)) new.gained
+  pub dumps : HasShelved s.time (dumps_of s.budget before) old.shelved new.shelved
+  pub stands : StandsAmong new.machine (left_behind s.budget before line)
+
+-- memory was wanting for a line behind those that were run, or, after it was run, for its dump
+abbrev pub WantedBehind : Setting → List (List ℕ) → List ℕ → Output → Output → Type 0
+WantedBehind s before line old new = StoppedBefore s before line old new ⊎ DumpedInPart s before line old new
+
 pub record WantedMemory (s : Setting) (old new : Outside) : Type 0 where
   pub before : List (List ℕ)
   pub line : List ℕ
   pub came : CameTo old new (before ++ line ∷ [])
-  pub put : ShelvedBehind s before line old.output new.output
+  pub put : WantedBehind s before line old.output new.output
 
 -- memory was wanting, before the first line or for a line
 abbrev pub StoppedForMemory : Setting → Outside → Outside → Type 0
-StoppedForMemory s old new = NotBegun old new ⊎ WantedMemory s old new
+StoppedForMemory s old new = NotBegun s old new ⊎ WantedMemory s old new
 
 -- what a run leaves, by its status
 abbrev pub EndedRun : Setting → Status → Outside → Outside → Type 0

@@ -1,8 +1,8 @@
 -- What a run changes: what its source has left, what its sink has gained, what its shelf has, the faults of the three, and
--- the machine.
+-- the machine, of which nothing is known but the worlds that it stands for.
 use Rattle.std.specs.Prelude.{ℕ, List, Option}
 use Rattle.ah_outside.specs.Outside.{Shelved}
-use Rattle.heap_world.specs.World.{World}
+use Rattle.plain_machine.specs.Worlds.{Meaning}
 
 -- what the words of a run set: the budget of each process in regions, and the time in the headers of its dumps
 pub record Setting : Type 0 where
@@ -16,7 +16,7 @@ pub record Output : Type 0 where
   pub write_faults : ℕ
   pub shelved : Shelved
   pub shelf_faults : ℕ
-  pub machine : World
+  pub machine : Meaning
 
 -- what a run changes: the bytes that the source has left, where it tells them, its count of faults, and what lines change
 pub record Outside : Type 0 where
@@ -25,7 +25,7 @@ pub record Outside : Type 0 where
   pub output : Output
 
 -- what lines change, from what a sink and a shelf tell and from a machine
-abbrev pub output_of : Option (List ℕ) → ℕ → Shelved → ℕ → World → Output
+abbrev pub output_of : Option (List ℕ) → ℕ → Shelved → ℕ → Meaning → Output
 output_of held writes shelf shelvings m =
     record { gained = held; write_faults = writes; shelved = shelf; shelf_faults = shelvings; machine = m }
 

@@ -2,7 +2,8 @@
 use Rattle.std.specs.Prelude.{◌≡◌, ◌≢◌, ◌⊎◌, ℕ, ◌+◌, ◌<◌, ◌≤◌, Bool, false, List, [], ◌∷◌, ◌++◌, length, take}
 use Rattle.ah_outside.specs.Outside.{FaultRose, Gave, Gained}
 use Rattle.model_numbers.specs.Numbers.{input_limit}
-use Rattle.plain_machine.specs.Worlds.{StandsFor}
+use Rattle.heap_world.specs.World.{World}
+use Rattle.plain_machine.specs.Worlds.{StandsAmong, StandsFor}
 use Rattle.script_lang.specs.Feeding.{Feed, kept_line}
 use Rattle.script_lang.specs.Parts.{is_byte, lines, parts, whole_lines}
 use Rattle.script_report.specs.Report.{LineDone, answers_of, has_refusal, report_of, with_answer}
@@ -12,7 +13,7 @@ use Rattle.hprof_write.specs.declared.error.DumpError.TheVariants.{ShelfFault, O
 use Rattle.job_status.specs.declared.stop.Stop.{Stop}
 use Rattle.job_status.specs.declared.stop.Stop.TheVariants.{Read, Write, Shelf, Memory, TooLong}
 use Rattle.script_run.specs.Dumps.{HasShelved, StoppedShelving}
-use Rattle.script_run.specs.Ends.{FailedShelf, PutBehind, RanLines, ShelvedBehind}
+use Rattle.script_run.specs.Ends.{DumpedInPart, PutBehind, RanLines, WantedBehind}
 use Rattle.script_run.specs.Outside.{Outside, Output, Setting}
 
 -- why a run stops whose dump wasn't written whole
@@ -50,13 +51,19 @@ pub record ShelvedInPart (time : ℕ) (d : LineDone) (old new : Output) : Type 0
   pub put : PutNothing time d old new
   pub stands : StandsFor new.machine d.world
 
--- why a line wasn't run to its end
-abbrev pub StoppedLine : Stop → ℕ → ℕ → LineDone → Output → Output → Type 0
-StoppedLine Read time n d old new = ⊥
-StoppedLine Write time n d old new = PutInPart time n d old new × FaultRose old.write_faults new.write_faults
-StoppedLine Shelf time n d old new = ShelvedInPart time d old new × FaultRose old.shelf_faults new.shelf_faults
-StoppedLine Memory time n d old new = PutNothing time d old new
-StoppedLine TooLong time n d old new = ⊥
+-- a line wasn't run: nothing was put nor added, and the machine stands for one of the worlds that it may leave
+pub record NotRun (left : List World) (old new : Output) : Type 0 where
+  pub report : new.gained ≡ old.gained
+  pub dumps : new.shelved ≡ old.shelved
+  pub stands : StandsAmong new.machine left
+
+-- why a line wasn't run to its end, which may leave one of these worlds
+abbrev pub StoppedLine : Stop → ℕ → ℕ → LineDone → List World → Output → Output → Type 0
+StoppedLine Read time n d left old new = ⊥
+StoppedLine Write time n d left old new = PutInPart time n d old new × FaultRose old.write_faults new.write_faults
+StoppedLine Shelf time n d left old new = ShelvedInPart time d old new × FaultRose old.shelf_faults new.shelf_faults
+StoppedLine Memory time n d left old new = NotRun left old new ⊎ ShelvedInPart time d old new
+StoppedLine TooLong time n d left old new = ⊥
 
 -- lines were run, whether some reply was a refusal is as said, and no count of faults has fallen
 pub record HasRunLines (s : Setting) (ls : List (List ℕ)) (refused : Bool) (old new : Output) : Type 0 where
@@ -78,8 +85,8 @@ pub record HasRun (s : Setting) (text : List ℕ) (feed : Feed) (refused : Bool)
 abbrev pub StoppedBehind : Stop → Setting → List (List ℕ) → List ℕ → Output → Output → Type 0
 StoppedBehind Read s before line old new = ⊥
 StoppedBehind Write s before line old new = PutBehind s before line old new × FaultRose old.write_faults new.write_faults
-StoppedBehind Shelf s before line old new = FailedShelf s before line old new × FaultRose old.shelf_faults new.shelf_faults
-StoppedBehind Memory s before line old new = ShelvedBehind s before line old new
+StoppedBehind Shelf s before line old new = DumpedInPart s before line old new × FaultRose old.shelf_faults new.shelf_faults
+StoppedBehind Memory s before line old new = WantedBehind s before line old new
 StoppedBehind TooLong s before line old new = ⊥
 
 -- a run stopped at a line of a text that a line feed ends, with fewer bytes of the text behind that than this

@@ -6,7 +6,7 @@ ghost use Rattle.heap_graph.specs.Table.{Fits};
 ghost use Rattle.heap_world.specs.World.{World};
 ghost use Rattle.hprof_write.specs.Outcomes.{IfShelfFault};
 ghost use Rattle.plain_dumps.specs.Addresses.{addresses};
-ghost use Rattle.plain_machine.specs.Counts.{graph_of};
+ghost use Rattle.heap_world.specs.Counts.{graph_of};
 ghost use Rattle.plain_machine.specs.Worlds.{StandsFor};
 ghost use Rattle.script_report.specs.Dumps.{Dumping};
 ghost use Rattle.script_run.specs.Dumps.{HasEntry, HasEntryPart, HasShelved, HasShelvedPart, dump_entry, dumped_by, entry_name, map_entry};

@@ -2,16 +2,18 @@
 ghost use Rattle.std.specs.Prelude.{◌≡◌, ◌≢◌, ◌+◌, ◌-◌, ◌<◌, ◌≤◌, ◌^◌, ◌||◌, ◌++◌, ◌∷◌, [], ℕ, Bool, List, Ok, true, false, length, MatchResult, IfOk, OnOk, OnErr};
 ghost use Rattle.ah_outside.specs.Outside.{FaultRose, Gained, GainedPrefix};
 ghost use Rattle.heap_world.specs.World.{World};
-ghost use Rattle.plain_machine.specs.Worlds.{StandsFor};
+ghost use Rattle.plain_machine.specs.Worlds.{StandsAmong, StandsFor};
 ghost use Rattle.script_lang.specs.FedLines.{fed_line};
 ghost use Rattle.script_lang.specs.Feeding.{at_next, kept_line};
 ghost use Rattle.script_lang.specs.Texts.{reply_line};
 ghost use Rattle.hprof_write.specs.Outcomes.{IfShelfFault};
 ghost use Rattle.script_report.specs.Dumps.{Dumping};
 ghost use Rattle.script_report.specs.Report.{has_refusal, report_of, step_line, with_answer};
+ghost use Rattle.script_report.specs.Wanting.{line_left};
 ghost use Rattle.script_run.specs.Dumps.{HasShelved, IsAsked, StoppedShelving};
 ghost use Rattle.script_run.specs.Outside.{Output, Setting, output_of};
 ghost use Rattle.script_run.specs.Progress.{dump_stop, HasRunLines, RanLine, StoppedBehind, StoppedLine};
+ghost use Rattle.world_laws.specs.Labels.{AreEarlier};
 
 use crate::Machine;
 use crate::dumped::{Dumped, add_entries, dumped_by};
@@ -42,13 +44,17 @@ impl Answered {
 }
 
 /// Reads a line that came and runs its command, and gives what it came to. The dump that it asks for isn't written yet.
+/// The line's number is greater than those of all labels. After want of memory the machine stands for one of the worlds
+/// that the line may leave.
 fn step_line(alloc: Global, machine: &mut Machine, fed: &Fed<'_>) -> Result<Answered, AllocError>
-    ensures reply { (w : World) (line : List ℕ) → StandsFor machine.old w → (fed_line fed.now).kept ≡ kept_line line →
+    ensures reply { (w : World) (line : List ℕ) → StandsFor machine.old w → AreEarlier (fed_line fed.now).number w → (fed_line fed.now).kept ≡ kept_line line →
         IfOk result (λ answered. answered.reply ≡ (step_line w (fed_line fed.now).number line).reply) }
-    ensures dumped { (w : World) (line : List ℕ) → StandsFor machine.old w → (fed_line fed.now).kept ≡ kept_line line →
+    ensures dumped { (w : World) (line : List ℕ) → StandsFor machine.old w → AreEarlier (fed_line fed.now).number w → (fed_line fed.now).kept ≡ kept_line line →
         IfOk result (λ answered. let d = step_line w (fed_line fed.now).number line in IsAsked answered.dumped d.dumps d.world) }
-    ensures world { (w : World) (line : List ℕ) → StandsFor machine.old w → (fed_line fed.now).kept ≡ kept_line line →
+    ensures world { (w : World) (line : List ℕ) → StandsFor machine.old w → AreEarlier (fed_line fed.now).number w → (fed_line fed.now).kept ≡ kept_line line →
         OnOk result (StandsFor machine.new (step_line w (fed_line fed.now).number line).world) }
+    ensures left { (w : World) (line : List ℕ) → StandsFor machine.old w → AreEarlier (fed_line fed.now).number w → (fed_line fed.now).kept ≡ kept_line line →
+        OnErr result (StandsAmong machine.new (line_left w (fed_line fed.now).number line)) }
 {
     let Fed::Line { number, bytes } = *fed else {
         return Ok(Answered::told(Some(Reply::Refused(Refusal::LineTooLong))));
@@ -72,15 +78,19 @@ fn step_line(alloc: Global, machine: &mut Machine, fed: &Fed<'_>) -> Result<Answ
 }
 
 /// Reads a line that came and runs its command, and gives its reply, if it has one. A dump that it asks for isn't written.
+/// The line's number is greater than those of all labels. After want of memory the machine stands for one of the worlds
+/// that the line may leave.
 pub fn reply_to(
     alloc: Global,
     machine: &mut Machine,
     fed: &Fed<'_>,
 ) -> Result<Option<Reply>, AllocError>
-    ensures reply { (w : World) (line : List ℕ) → StandsFor machine.old w → (fed_line fed.now).kept ≡ kept_line line →
+    ensures reply { (w : World) (line : List ℕ) → StandsFor machine.old w → AreEarlier (fed_line fed.now).number w → (fed_line fed.now).kept ≡ kept_line line →
         IfOk result (λ reply. reply ≡ (step_line w (fed_line fed.now).number line).reply) }
-    ensures world { (w : World) (line : List ℕ) → StandsFor machine.old w → (fed_line fed.now).kept ≡ kept_line line →
+    ensures world { (w : World) (line : List ℕ) → StandsFor machine.old w → AreEarlier (fed_line fed.now).number w → (fed_line fed.now).kept ≡ kept_line line →
         OnOk result (StandsFor machine.new (step_line w (fed_line fed.now).number line).world) }
+    ensures left { (w : World) (line : List ℕ) → StandsFor machine.old w → AreEarlier (fed_line fed.now).number w → (fed_line fed.now).kept ≡ kept_line line →
+        OnErr result (StandsAmong machine.new (line_left w (fed_line fed.now).number line)) }
 {
     match step_line(alloc, machine, fed) {
         Ok(answered) => Ok(answered.reply),
@@ -169,12 +179,12 @@ fn answer_line<W: Sink, F: Shelf>(
     machine: &mut Machine,
 ) -> Result<bool, Stop>
     requires finished { (F.shelved shelf.old).unfinished ≡ false }
-    ensures done { (w : World) (line : List ℕ) → StandsFor machine.old w → (fed_line fed.now).kept ≡ kept_line line →
+    ensures done { (w : World) (line : List ℕ) → StandsFor machine.old w → AreEarlier (fed_line fed.now).number w → (fed_line fed.now).kept ≡ kept_line line →
         let n = (fed_line fed.now).number in
         let d = step_line w n line in
         let old = output_of (W.gained sink.old) (W.fault_count sink.old) (F.shelved shelf.old) (F.fault_count shelf.old) machine.old in
         let new = output_of (W.gained sink.new) (W.fault_count sink.new) (F.shelved shelf.new) (F.fault_count shelf.new) machine.new in
-        MatchResult result (λ refused. RanLine time n d refused old new) (λ stop. StoppedLine stop time n d old new) }
+        MatchResult result (λ refused. RanLine time n d refused old new) (λ stop. StoppedLine stop time n d (line_left w n line) old new) }
     ensures finished { OnOk result ((F.shelved shelf.new).unfinished ≡ false) }
     ensures never_falls { W.fault_count sink.old ≤ W.fault_count sink.new }
     ensures shelf_never_falls { F.fault_count shelf.old ≤ F.fault_count shelf.new }

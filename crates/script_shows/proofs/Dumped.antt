@@ -10,7 +10,7 @@ use Rattle.heap_world.specs.declared.command.Verb.{Verb}
 use Rattle.heap_world.specs.declared.command.Verb.TheVariants as verb
 use Rattle.heap_world.specs.declared.reply.Reply.{Reply}
 use Rattle.heap_world.specs.declared.reply.Reply.TheVariants as reply
-use Rattle.heap_world.specs.Formed.{IsFormed}
+use Rattle.heap_graph.specs.Formed.{IsFormed}
 use Rattle.heap_world.specs.World.{Process, World, first_world, process_named, step}
 use Rattle.hprof_write.specs.Written.{written}
 use Rattle.script_lang.specs.declared.read.LineError.{LineError}

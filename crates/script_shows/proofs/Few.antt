@@ -7,7 +7,7 @@ use Rattle.class_layout.specs.Names.{same_name}
 use Rattle.heap_world.specs.declared.command.Command.{Command}
 use Rattle.heap_world.specs.declared.command.Verb.{Verb}
 use Rattle.heap_world.specs.declared.command.Verb.TheVariants as verb
-use Rattle.heap_world.specs.Formed.{HasFewFields}
+use Rattle.heap_world.specs.Commands.{HasFewFields}
 use Rattle.script_lang.specs.declared.read.LineError.{LineError}
 use Rattle.script_lang.specs.Forms.{class_of, decls_of, field_of, kind_of, root_of, value_of}
 use Rattle.script_lang.specs.Grammar.{Entry, alone, alone_entries, as_meaning, asked_one, asked_three, asked_two, class_line, command_of, command_with, counting_entries, doing_entries, entries, fixed_entries, is_silent, line_meaning, one, one_entries, three, three_entries, two, two_entries, verb_in, words_meaning}

@@ -8,7 +8,7 @@ use Rattle.heap_graph.specs.declared.names.Place.TheVariants.{Image, Zygote, You
 use Rattle.heap_graph.specs.Graph.{Graph, Object, is_young, size_of_object}
 use Rattle.heap_graph.specs.Packing.{after, place, places_from}
 use Rattle.heap_graph.specs.Table.{Fits, IsPlacedAt}
-use Rattle.heap_world.specs.Formed.{IsFormed}
+use Rattle.heap_graph.specs.Formed.{IsFormed}
 use Rattle.plain_view.specs.Viewed.{first_table}
 use Rattle.plain_view.proofs.Shown.{first-fits, first-not-null}
 

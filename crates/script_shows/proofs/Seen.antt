@@ -2,7 +2,7 @@
 use Rattle.std.proofs.Common.{ℕ, refl}
 use Rattle.heap_graph.specs.Graph.{Graph}
 use Rattle.heap_graph.specs.Table.{Fits}
-use Rattle.heap_world.specs.Formed.{IsFormed}
+use Rattle.heap_graph.specs.Formed.{IsFormed}
 use Rattle.object_view.specs.Seen.{IsShown}
 use Rattle.plain_view.specs.Viewed.{first_table}
 use Rattle.plain_view.proofs.Shown.{shown}

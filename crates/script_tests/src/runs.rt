@@ -1,5 +1,5 @@
 //! Whole runs: reports, statuses, and what a machine counts after them.
-ghost use Rattle.heap_world.specs.Formed.{HasFewFields};
+ghost use Rattle.heap_world.specs.Commands.{HasFewFields};
 
 use crate::call::{Request, call, gives};
 use crate::rows::ROWS;

@@ -28,12 +28,13 @@ use Rattle.heap_world.proofs.Noted.{has-cards}
 use Rattle.heap_world.specs.declared.names.PageName.{PageName}
 use Rattle.heap_world.specs.declared.names.PageName.TheVariants.{Image, Zygote, Large}
 use Rattle.heap_world.specs.Acts.{first_touch, store, store_effect, stored_cards_if, with_slot}
-use Rattle.heap_world.specs.Formed.{FillImage, FillZygote, HasSlot, IsBehindImage, IsBehindZygote, IsFormed, zygote_next}
+use Rattle.heap_graph.specs.Formed.{FillImage, FillZygote, HasSlot, IsBehindImage, IsBehindZygote, IsFormed, zygote_next}
 use Rattle.heap_world.specs.Pages.{is_touched, page_in}
 use Rattle.heap_world.specs.Part.{Part}
 use Rattle.world_laws.specs.Outward.{IsCardAmong, LieIn, LieWithin, card_start, page_start, start_of}
 use Rattle.world_laws.proofs.NotedCards.{found_in}
-use Rattle.world_laws.proofs.OutwardPages.{cards_one, holds_none, stored_slot, touch_has}
+use Rattle.heap_graph.proofs.Places.{stored-slot}
+use Rattle.world_laws.proofs.OutwardPages.{cards_one, holds_none, touch_has}
 use Rattle.world_laws.proofs.StandingObjects.{all_in}
 
 -- the offset is a multiple of the slot's size
@@ -203,7 +204,7 @@ store_card p o s v formed found has immune ref window =
 pub outward_card : (p : Part) (o : Object) (s : Stored) → IsSound p → IsIn o p.graph.objects → IsIn s o.slots → is_immune p.graph.sealed o.place ≡ true → is_outward p.graph s.value ≡ true
     → IsCardAmong p.stored p.held o s.at.offset (kind_bytes s.at.kind)
 outward_card p o s sound there slot immune out =
-    let at = slot_card p.graph o s.at sound.formed there (stored_slot p.graph o s sound.formed there slot) (window o.place refl immune) in
+    let at = slot_card p.graph o s.at sound.formed there (stored-slot p.graph o s sound.formed there slot) (window o.place refl immune) in
     let all = cards_one (λ c. is_noted p.stored p.held c ≡ true) p.graph p.graph.objects o s sound.outward_noted there slot immune out in
     (at.0, at.1, (subst (λ cs. AllByRecursion (λ c. is_noted p.stored p.held c ≡ true) cs) at.1 all).0, at.2)
   where

@@ -13,7 +13,8 @@ use Rattle.heap_world.specs.declared.names.PageName.{PageName}
 use Rattle.heap_world.specs.declared.names.PageName.TheVariants.{Image, Zygote, Large}
 use Rattle.heap_world.specs.Acts.{act, fork_part}
 use Rattle.heap_world.specs.Effect.{Effect}
-use Rattle.heap_world.specs.Formed.{AreRising, HasFewFields, IsFormed}
+use Rattle.heap_graph.specs.Formed.{AreRising, IsFormed}
+use Rattle.heap_world.specs.Commands.{HasFewFields}
 use Rattle.heap_world.specs.Pages.{is_touched}
 use Rattle.heap_world.specs.Part.{Part}
 use Rattle.world_laws.specs.Effects.{KeepsNames, MakesNew, TouchesFirst}

@@ -14,7 +14,8 @@ use Rattle.heap_world.specs.declared.command.Verb.{Verb}
 use Rattle.heap_world.specs.declared.names.PageName.{PageName}
 use Rattle.heap_world.specs.Acts.{act, fork_pages, fork_part, image_pages_behind, pages_of_new, slot_pages_if, store_effect, with_slot}
 use Rattle.heap_world.specs.Effect.{Effect}
-use Rattle.heap_world.specs.Formed.{FillZygote, HasFewFields, IsFormed}
+use Rattle.heap_graph.specs.Formed.{FillZygote, IsFormed}
+use Rattle.heap_world.specs.Commands.{HasFewFields}
 use Rattle.heap_world.specs.Part.{Part}
 use Rattle.heap_world.proofs.FormedDefine.{IsGrown}
 use Rattle.heap_world.proofs.FormedKept.{collect_formed, promoted_formed}

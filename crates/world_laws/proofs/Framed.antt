@@ -5,7 +5,7 @@ use Rattle.std.proofs.lemmas.Bool.{and_parts, or_cases, or_left, or_right}
 use Rattle.heap_graph.specs.Graph.{Graph}
 use Rattle.heap_world.specs.declared.names.Label.{Label}
 use Rattle.heap_world.specs.declared.names.PageName.{PageName}
-use Rattle.heap_world.specs.Formed.{IsFormed}
+use Rattle.heap_graph.specs.Formed.{IsFormed}
 use Rattle.heap_world.specs.Pages.{is_touched, own_page_count, same_page, standing_pages}
 use Rattle.heap_world.specs.World.{Process, World, distinct_labels, frame_count, keep_label, label_of, live, same_label, some_labels, standing_labels}
 use Rattle.world_laws.specs.Labels.{HasLabel, IsLabelled}

@@ -21,7 +21,7 @@ use Rattle.heap_world.specs.declared.names.PageName.{PageName}
 use Rattle.heap_world.specs.declared.names.PageName.TheVariants.{Image, Zygote, Large}
 use Rattle.heap_world.specs.Acts.{act, fork_pages, fork_part, image_pages_behind, pages_of_new, slot_pages_if, store_effect, with_slot}
 use Rattle.heap_world.specs.Effect.{Effect}
-use Rattle.heap_world.specs.Formed.{AreRising, IsFormed}
+use Rattle.heap_graph.specs.Formed.{AreRising, IsFormed}
 use Rattle.heap_world.specs.Pages.{is_touched}
 use Rattle.heap_world.specs.Part.{Part}
 use Rattle.heap_world.proofs.FormedKept.{collect_formed, promoted_formed}

@@ -11,7 +11,7 @@ use Rattle.heap_world.specs.declared.command.Command.{Command}
 use Rattle.heap_world.specs.declared.command.Verb.{Verb}
 use Rattle.heap_world.specs.declared.names.PageName.TheVariants.{Image, Zygote, Large}
 use Rattle.heap_world.specs.Acts.{act, fork_part}
-use Rattle.heap_world.specs.Formed.{HasFewFields}
+use Rattle.heap_world.specs.Commands.{HasFewFields}
 use Rattle.heap_world.specs.Part.{Part, first_part}
 use Rattle.heap_world.specs.Run.{Line, world_after}
 use Rattle.heap_world.specs.Sound.{IsSound}
@@ -86,7 +86,7 @@ module _ (budget number : ℕ) where
   }
 
 -- before a later line
-later_line : (n m : ℕ) (w : World) → n ≤ m → IsInOrder n w → IsInOrder m w
+pub later_line : (n m : ℕ) (w : World) → n ≤ m → IsInOrder n w → IsInOrder m w
 later_line n m w le order = record {
   sound = order.sound;
   earlier = λ q there. all-weaken (λ l. l.line < n) (λ l. l.line < m) (λ l less. omega (arith, less, le)) q.labels (order.earlier q there);

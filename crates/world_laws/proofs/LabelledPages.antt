@@ -11,7 +11,7 @@ use Rattle.heap_world.specs.declared.names.PageName.{PageName}
 use Rattle.heap_world.specs.declared.names.PageName.TheVariants.{Large}
 use Rattle.heap_world.specs.Acts.{act, fork_part}
 use Rattle.heap_world.specs.Effect.{Effect}
-use Rattle.heap_world.specs.Formed.{HasFewFields}
+use Rattle.heap_world.specs.Commands.{HasFewFields}
 use Rattle.heap_world.specs.Pages.{is_touched}
 use Rattle.heap_world.specs.World.{Process, World, child_process, label_of, labelled, process_after, step}
 use Rattle.heap_world.proofs.Standing.{in-left}

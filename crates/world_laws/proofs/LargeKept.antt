@@ -20,7 +20,8 @@ use Rattle.heap_world.specs.declared.names.PageName.{PageName}
 use Rattle.heap_world.specs.declared.names.PageName.TheVariants.{Large}
 use Rattle.heap_world.specs.Acts.{act, dump_counted, fork_part, pages_of_new, slot_pages_if, store_effect, stored_in, stored_in_if, with_slot}
 use Rattle.heap_world.specs.Effect.{Effect}
-use Rattle.heap_world.specs.Formed.{AreObjects, HasFewFields, IsFormed, IsShape}
+use Rattle.heap_graph.specs.Formed.{AreObjects, IsFormed, IsShape}
+use Rattle.heap_world.specs.Commands.{HasFewFields}
 use Rattle.heap_world.specs.Pages.{is_touched}
 use Rattle.heap_world.specs.Part.{Part}
 use Rattle.heap_world.proofs.FormedDefine.{IsGrown}

@@ -7,6 +7,7 @@ pub mod Fresh
 pub mod InOrder
 pub mod LabelledPages
 pub mod Labelling
+pub mod Left
 pub mod LargeKept
 pub mod Named
 pub mod OutwardPages

@@ -18,13 +18,12 @@ use Rattle.heap_graph.proofs.Totals.{total-filter, total-promoted, total-push}
 use Rattle.heap_world.specs.declared.names.PageName.{PageName}
 use Rattle.heap_world.specs.declared.names.PageName.TheVariants.{Image, Zygote, Large}
 use Rattle.heap_world.specs.Acts.{fork_pages, image_pages_behind, slot_pages_if}
-use Rattle.heap_world.specs.Formed.{FillZygote, IsBehindZygote, IsFormed, zygote_next}
+use Rattle.heap_graph.specs.Formed.{FillZygote, IsBehindZygote, IsFormed, zygote_next}
 use Rattle.heap_world.specs.Pages.{is_touched}
 use Rattle.heap_world.proofs.FormedKept.{loose-dropped}
 use Rattle.heap_world.proofs.Placed.{fill-is, top-is, zygote_top}
 use Rattle.heap_world.proofs.PlacedFilter.{no_image, top-filter, zygote-filter}
-use Rattle.heap_world.proofs.PlacedFork.{young-sum}
-use Rattle.world_laws.proofs.Tops.{top-promoted}
+use Rattle.heap_world.proofs.PlacedFork.{top-promoted, young-sum}
 use Rattle.heap_world.proofs.PlacedPush.{top-push, zygote-push}
 use Rattle.heap_world.proofs.PlacedSame.{AreSame, cleared-same, image_size-same, top-same, total-same, zygote-same}
 use Rattle.heap_world.proofs.Standing.{in-count}

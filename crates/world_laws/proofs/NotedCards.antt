@@ -26,7 +26,8 @@ use Rattle.heap_world.specs.declared.names.Card.TheVariants.{Image, Zygote}
 use Rattle.heap_world.specs.Acts.{act, fork_part, root_written, store_effect, stored_cards_if, with_slot}
 use Rattle.heap_world.specs.Cards.{add_card_if, add_cards, cards_in, held_cards, is_card_among, noted_count, outward_cards, same_card}
 use Rattle.heap_world.specs.Effect.{Effect}
-use Rattle.heap_world.specs.Formed.{HasFewFields, HasSlot, IsFormed}
+use Rattle.heap_graph.specs.Formed.{HasSlot, IsFormed}
+use Rattle.heap_world.specs.Commands.{HasFewFields}
 use Rattle.heap_world.specs.Pages.{count_from}
 use Rattle.heap_world.specs.Part.{Part}
 use Rattle.heap_world.specs.Sound.{IsSound}
@@ -38,7 +39,8 @@ use Rattle.heap_world.proofs.SoundParts.{distinct-cards}
 use Rattle.heap_world.proofs.Standing.{slot-lies}
 use Rattle.world_laws.specs.Outward.{NotesWithin, is_card_of}
 use Rattle.world_laws.proofs.Named.{fills-collect, fills-heap, fills-image, fills-same}
-use Rattle.world_laws.proofs.OutwardPages.{cards_all, stored_slot}
+use Rattle.heap_graph.proofs.Places.{stored-slot}
+use Rattle.world_laws.proofs.OutwardPages.{cards_all}
 use Rattle.world_laws.proofs.StandingObjects.{cards_within}
 use Rattle.world_laws.proofs.Walk.{act_walk, fork_walk}
 
@@ -85,7 +87,7 @@ slot_cards_within g o s formed there has = let lies = slot-lies g.classes o.shap
 held_within : (g : Graph) → IsFormed g → AreCards g (held_cards g)
 held_within g formed =
     all_added (λ c. is_card_of g c ≡ true) (outward_cards g) []
-    (cards_all (λ c. is_card_of g c ≡ true) g g.objects (λ o s there slot immune out. slot_cards_within g o s.at formed there (stored_slot g o s formed there slot)))
+    (cards_all (λ c. is_card_of g c ≡ true) g g.objects (λ o s there slot immune out. slot_cards_within g o s.at formed there (stored-slot g o s formed there slot)))
     tt
 
 fills_from : (g h : Graph) → (image_fill h ≡ image_fill g) × (zygote_fill h ≡ zygote_fill g) → Fills g h

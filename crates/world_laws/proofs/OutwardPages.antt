@@ -4,7 +4,6 @@ use Rattle.std.specs.List.{AllByRecursion, flat_map}
 use Rattle.std.proofs.lemmas.Bool.{and_parts, or_left}
 use Rattle.model_numbers.specs.Numbers.{card_bytes, image_base, page_bytes, zygote_base}
 use Rattle.class_layout.specs.declared.kind.FieldAt.{FieldAt}
-use Rattle.class_layout.specs.ClassList.{Class}
 use Rattle.class_layout.specs.Kinds.{is_ref}
 use Rattle.class_layout.specs.Placing.{IsIn}
 use Rattle.heap_graph.specs.declared.names.Content.{Content}
@@ -20,6 +19,7 @@ use Rattle.heap_graph.specs.Fork.{promoted, promotion_start}
 use Rattle.heap_graph.specs.Graph.{Graph, Object, image_fill, is_immune, object_at}
 use Rattle.heap_graph.specs.Sizes.{is_large}
 use Rattle.heap_graph.proofs.LaidOut.{all-push, all-weaken}
+use Rattle.heap_graph.proofs.Places.{stored-slot}
 use Rattle.heap_world.specs.declared.command.Verb.{Verb}
 use Rattle.heap_world.specs.declared.names.Card.{Card}
 use Rattle.heap_world.specs.declared.names.Card.TheVariants as card
@@ -28,7 +28,8 @@ use Rattle.heap_world.specs.declared.names.PageName.TheVariants.{Image, Zygote}
 use Rattle.heap_world.specs.Acts.{act, first_if, first_touch, fork_part, root_written, store_effect, with_slot}
 use Rattle.heap_world.specs.Cards.{cards_if, cards_in, is_outward, object_cards, outward_cards, slot_cards}
 use Rattle.heap_world.specs.Effect.{Effect}
-use Rattle.heap_world.specs.Formed.{AreObjects, AreSlots, FitsKind, HasFewFields, HasSlot, HoldsValues, IsFormed, SuitsShape, is_in_image}
+use Rattle.heap_graph.specs.Formed.{FitsKind, HasSlot, HoldsValues, IsFormed, SuitsShape, is_in_image}
+use Rattle.heap_world.specs.Commands.{HasFewFields}
 use Rattle.heap_world.specs.Pages.{is_touched, page_in, same_page}
 use Rattle.heap_world.specs.Part.{Part}
 use Rattle.heap_world.specs.Sound.{IsSound}
@@ -132,26 +133,12 @@ outs_of : (p : Part) → TouchesOutward p → Outs p
 outs_of p touches = cards_all (CardTouched p.touched) p.graph p.graph.objects (λ o s there slot immune out.
     let page = touches o s there slot immune out in card_touched p.touched o s.at.offset (Some page.0) page.1 page.2)
 
--- a stored slot is one of its object's shape
-slots_of : (cs : List Class) (os : List Object) (o : Object) → AreObjects cs os → IsIn o os → AreSlots cs o.shape o.slots
-slots_of cs [] o all there = absurd there
-slots_of cs (x ∷ os) o all (inl e) = subst (λ (y : Object). AreSlots cs y.shape y.slots) e all.1
-slots_of cs (x ∷ os) o all (inr there) = slots_of cs os o all.2 there
-
-slot_of : (cs : List Class) (shape : Shape) (ss : List Stored) (s : Stored) → AreSlots cs shape ss → IsIn s ss → HasSlot cs shape s.at
-slot_of cs shape [] s all there = absurd there
-slot_of cs shape (t ∷ ss) s all (inl e) = subst (λ (u : Stored). HasSlot cs shape u.at) e all.0
-slot_of cs shape (t ∷ ss) s all (inr there) = slot_of cs shape ss s all.2 there
-
-pub stored_slot : (g : Graph) (o : Object) (s : Stored) → IsFormed g → IsIn o g.objects → IsIn s o.slots → HasSlot g.classes o.shape s.at
-stored_slot g o s formed there slot = slot_of g.classes o.shape o.slots s (slots_of g.classes g.objects o formed.objects there) slot
-
 -- a promoted object has no references
 pub holds_none : (g : Graph) (o : Object) (s : Stored) → IsFormed g → IsIn o g.objects → IsIn s o.slots → o.place ≡ place.Promoted → is_outward g s.value ≡ true → ⊥
 holds_none g o s formed there slot at out =
     let fits : FitsKind s.at.kind s.value = all_in (λ s. FitsKind s.at.kind s.value) o.slots s (all_in HoldsValues g.objects o formed.values there) slot in
     let suits : is_large g.classes o.shape ≡ true = subst (λ q. SuitsShape g.classes o q) at (all_in (λ o. SuitsShape g.classes o o.place) g.objects o formed.places there) in
-    by o.shape suits (stored_slot g o s formed there slot) (ref s.value fits out)
+    by o.shape suits (stored-slot g o s formed there slot) (ref s.value fits out)
   where
     ref : (v : Content) → FitsKind s.at.kind v → is_outward g v ≡ true → is_ref s.at.kind ≡ true
     ref (content.Number z) fits out = absurd (true≢false (sym out))

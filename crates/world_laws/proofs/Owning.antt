@@ -17,7 +17,8 @@ use Rattle.heap_world.specs.declared.names.PageName.{PageName}
 use Rattle.heap_world.specs.declared.names.PageName.TheVariants.{Large}
 use Rattle.heap_world.specs.Acts.{act, fork_part}
 use Rattle.heap_world.specs.Effect.{Effect}
-use Rattle.heap_world.specs.Formed.{AreRising, HasFewFields, IsFormed}
+use Rattle.heap_graph.specs.Formed.{AreRising, IsFormed}
+use Rattle.heap_world.specs.Commands.{HasFewFields}
 use Rattle.heap_world.specs.Pages.{is_touched}
 use Rattle.heap_world.specs.World.{Process, World, child_process, is_done, label_of, process_after, step, stepped}
 use Rattle.heap_world.proofs.Processes.{apart-symm}

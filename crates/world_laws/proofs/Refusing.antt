@@ -84,7 +84,7 @@ put_none new (p ∷ ps) none =
     let parts = or_false (same_name p.name new.name) (taken ps new.name) none in
     ap (λ b. put_if b new p ∷ put new ps) parts.0 ∙ ap (λ rs. p ∷ rs) (put_none new ps parts.1)
 
-put_same : (q : Process) (name : List ℕ) (ps : List Process) → AreNamedApart ps → process_named ps name ≡ Some q → put q ps ≡ ps
+pub put_same : (q : Process) (name : List ℕ) (ps : List Process) → AreNamedApart ps → process_named ps name ≡ Some q → put q ps ≡ ps
 put_same q name [] apart is = refl
 put_same q name (p ∷ ps) apart is = by (same_name p.name name) refl is (put_same q name ps apart.1)
   where

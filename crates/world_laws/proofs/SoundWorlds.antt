@@ -6,7 +6,7 @@ use Rattle.class_layout.proofs.Uniqueness.{names-same}
 use Rattle.heap_world.specs.declared.command.Command.{Command}
 use Rattle.heap_world.specs.Acts.{act, fork_part}
 use Rattle.heap_world.specs.Effect.{Effect}
-use Rattle.heap_world.specs.Formed.{HasFewFields}
+use Rattle.heap_world.specs.Commands.{HasFewFields}
 use Rattle.heap_world.specs.Sound.{IsSound}
 use Rattle.heap_world.specs.World.{Process, World, child_process, first_world, process_after, put_if, step, stepped, with_child}
 use Rattle.heap_world.proofs.Processes.{apart-symm, or_false, put, taken, taken-more, taken-put}

@@ -11,7 +11,7 @@ use Rattle.heap_graph.specs.Graph.{Graph, Object, image_fill, zygote_fill}
 use Rattle.heap_graph.specs.Sizes.{parts_for, unrounded}
 use Rattle.heap_world.specs.declared.names.PageName.{PageName}
 use Rattle.heap_world.specs.declared.names.PageName.TheVariants.{Image, Zygote, Large}
-use Rattle.heap_world.specs.Formed.{AreRising, IsFormed}
+use Rattle.heap_graph.specs.Formed.{AreRising, IsFormed}
 use Rattle.heap_world.specs.Pages.{count_from, image_pages, is_touched, large_pages, pages_if_promoted, promoted_pages, same_page, standing_pages, zygote_pages}
 use Rattle.heap_world.proofs.Bounds.{page-refl}
 use Rattle.heap_world.proofs.SoundParts.{distinct-more, distinct-none}

@@ -11,7 +11,7 @@ use Rattle.heap_graph.specs.Sizes.{parts_for, unrounded}
 use Rattle.heap_world.specs.declared.names.PageName.{PageName}
 use Rattle.heap_world.specs.declared.names.PageName.TheVariants.{Image, Zygote, Large}
 use Rattle.heap_world.specs.Cards.{cards_in}
-use Rattle.heap_world.specs.Formed.{IsFormed}
+use Rattle.heap_graph.specs.Formed.{IsFormed}
 use Rattle.heap_world.specs.Pages.{is_touched, page_in, standing_pages}
 use Rattle.heap_world.proofs.Placed.{fill-is, top-is}
 use Rattle.heap_world.proofs.Standing.{LiesInImage, LiesInZygote, lie-image, lie-zygote}

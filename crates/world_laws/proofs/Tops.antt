@@ -1,5 +1,5 @@
 -- Where the zygote window ends behind a promotion.
-use Rattle.std.proofs.Common.{ℕ, ◌+◌, ◌-◌, ◌<◌, ◌≤◌, inl, inr, List, [], ◌∷◌, max, arith}
+use Rattle.std.proofs.Common.{ℕ, ◌+◌, ◌-◌, ◌<◌, ◌≤◌, inl, inr, List, [], ◌∷◌, arith}
 use Rattle.std.proofs.lemmas.Bool.{cases_lt}
 use Rattle.model_numbers.specs.Numbers.{zygote_base}
 use Rattle.class_layout.specs.ClassList.{Class}
@@ -8,40 +8,12 @@ use Rattle.heap_graph.specs.declared.names.Place.TheVariants as place
 use Rattle.heap_graph.specs.Fork.{next_spot, promoted_from, promoted_place}
 use Rattle.heap_graph.specs.Graph.{Object, size_of_object}
 use Rattle.heap_graph.proofs.Totals.{total}
-use Rattle.heap_world.specs.Formed.{FillZygote, zygote_next}
+use Rattle.heap_graph.specs.Formed.{FillZygote, zygote_next}
 use Rattle.heap_world.proofs.Placed.{top-max, zygote_top}
 use Rattle.heap_world.proofs.PlacedFork.{young_size}
 
 module _ (cs : List Class) where
-  -- where the window ends does not depend on where it was before, but for an empty one
-  top-from : (b c : ℕ) (os : List Object) → zygote_top cs b os ≤ max b (zygote_top cs c os)
-  top-from b c [] = omega arith
-  top-from b c (o ∷ os) = by o.place (top-from b c os)
-    where
-      by : (q : Place) → zygote_top cs b os ≤ max b (zygote_top cs c os) → zygote_top cs (zygote_next cs b o q) os ≤ max b (zygote_top cs (zygote_next cs c o q) os)
-      by (place.Image spot) rest = rest
-      by (place.Zygote spot) rest = omega arith
-      by place.Young rest = rest
-      by place.Large rest = rest
-      by place.Promoted rest = rest
-
-  -- what is promoted takes no more than its bytes
-  pub top-promoted : (bytes at : ℕ) (os : List Object) → zygote_top cs bytes (promoted_from cs at os) ≤ max (zygote_top cs bytes os) (at + total (λ o. young_size cs o o.place) os)
-  top-promoted bytes at [] = omega arith
-  top-promoted bytes at (o ∷ os) = by o.place (λ b a. top-promoted b a os)
-    where
-      by : (q : Place) → ((b a : ℕ) → zygote_top cs b (promoted_from cs a os) ≤ max (zygote_top cs b os) (a + total (λ o. young_size cs o o.place) os))
-          → zygote_top cs (zygote_next cs bytes (record o { place = promoted_place at q }) (promoted_place at q)) (promoted_from cs (next_spot at (size_of_object cs o) q) os)
-          ≤ max (zygote_top cs (zygote_next cs bytes o q) os) (at + (young_size cs o q + total (λ o. young_size cs o o.place) os))
-      by (place.Image spot) rest = omega (arith, rest bytes at)
-      by (place.Zygote spot) rest = omega (arith, rest (spot + size_of_object cs o - zygote_base) at)
-      by place.Young rest =
-          let end : ℕ = zygote_base + at + size_of_object cs o - zygote_base in
-          omega (arith, rest end (at + size_of_object cs o), top-from end bytes os)
-      by place.Large rest = omega (arith, rest bytes at)
-      by place.Promoted rest = omega (arith, rest bytes at)
-
-  -- nor less
+  -- what is promoted takes no less than its bytes
   pub top-least : (bytes at : ℕ) (os : List Object) → FillZygote cs bytes (promoted_from cs at os) → 0 < total (λ o. young_size cs o o.place) os
       → at + total (λ o. young_size cs o o.place) os ≤ zygote_top cs bytes (promoted_from cs at os)
   top-least bytes at [] fill more = absurd (omega (arith, more))

@@ -8,7 +8,7 @@ use Rattle.heap_world.specs.declared.command.Verb.{Verb}
 use Rattle.heap_world.specs.declared.names.PageName.{PageName}
 use Rattle.heap_world.specs.Acts.{act, first_if, first_touch, fork_part, store_effect, with_slot}
 use Rattle.heap_world.specs.Effect.{Effect}
-use Rattle.heap_world.specs.Formed.{HasSlot, IsFormed}
+use Rattle.heap_graph.specs.Formed.{HasSlot, IsFormed}
 use Rattle.heap_world.specs.Pages.{is_touched, page_in, standing_pages}
 use Rattle.heap_world.specs.Part.{Part}
 use Rattle.heap_world.proofs.Standing.{slot-stands}

@@ -33,7 +33,8 @@ use Rattle.heap_world.specs.declared.reply.Reply.{Reply}
 use Rattle.heap_world.specs.declared.reply.Reply.TheVariants as reply
 use Rattle.heap_world.specs.Acts.{act, after_define, after_make, copy_root, define_refusal, drop_held, dump_counted, dump_if, dump_to, fork_collected, fork_part, gc_if, gc_to, get_element, get_field, held_reply, load_element, load_field, load_slot, make_numbered, make_shape, make_sized, make_slots, make_weak, new_of_class, put_element, referent_at, seal_if, set_field, show_root, shown, shown_object, slot_reply, store}
 use Rattle.heap_world.specs.Effect.{Effect, becomes, effect_or, is_refusal, refuses, tells}
-use Rattle.heap_world.specs.Formed.{FitsKind, HasFewFields, HasSlot, IsFormed}
+use Rattle.heap_graph.specs.Formed.{FitsKind, HasSlot, IsFormed}
+use Rattle.heap_world.specs.Commands.{HasFewFields}
 use Rattle.heap_world.specs.Part.{Part}
 use Rattle.heap_world.specs.Slots.{◌>>=◌, element_if, field_or_refusal, held_by_root, named_by, number_if_fits, object_held, object_or_refusal, only_reference, reference_if, root_or_refusal, slot_indexed, slot_named, stored_value}
 use Rattle.heap_world.proofs.FormedDefine.{IsGrown, define-grows}

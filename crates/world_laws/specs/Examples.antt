@@ -3,6 +3,7 @@ use Rattle.std.specs.Prelude.{ℕ, zero, suc, ◌+◌, ◌-◌, true, false, Lis
 use Rattle.model_numbers.specs.Numbers.{image_base, zygote_base, zygote_length}
 use Rattle.class_layout.specs.declared.kind.Kind.TheVariants as kind
 use Rattle.class_layout.specs.declared.kind.Value.TheVariants as value
+use Rattle.heap_graph.specs.declared.names.Place.{Place}
 use Rattle.heap_graph.specs.declared.names.Place.TheVariants as place
 use Rattle.heap_graph.specs.declared.names.Shape.TheVariants.{Array}
 use Rattle.heap_graph.specs.Examples.{root_to, young}
@@ -16,6 +17,7 @@ use Rattle.heap_world.specs.Examples.{answer, field, line}
 use Rattle.heap_world.specs.Part.{Part, first_part}
 use Rattle.heap_world.specs.Run.{Answer, Line, step_line}
 use Rattle.heap_world.specs.World.{World}
+use Rattle.world_laws.specs.Wanting.{left_worlds}
 
 -- what each line allows
 abbrev pub allowances : World → List Line → List ℕ
@@ -161,3 +163,28 @@ noted_card =
 
 abbrev pub noted_card_allowances : List ℕ
 noted_card_allowances = 16 ∷ 16 ∷ 16 ∷ 48 ∷ 16 ∷ 16 ∷ 16 ∷ 2064 ∷ 2064 ∷ 4144 ∷ 16 ∷ []
+
+-- the places of each process's objects
+abbrev pub places : World → List (List Place)
+places w = map (λ q. map (λ o. o.place) q.part.graph.objects) w.processes
+
+-- the same in each world that a line may leave where memory is wanting for it
+abbrev pub places_left : World → Line → List (List (List Place))
+places_left w l = map places (left_worlds w l.number l.command)
+
+-- a sealed process with two young objects, of which one is held
+abbrev pub one_held : List Line
+one_held =
+    line 1 (codes "zygote") verb.Seal
+    ∷ line 2 (codes "zygote") (verb.Array (codes "a") kind.Byte 100)
+    ∷ line 3 (codes "zygote") (verb.Array (codes "a") kind.Byte 100)
+    ∷ []
+
+abbrev pub both_young : List (List Place)
+both_young = (place.Young ∷ place.Young ∷ []) ∷ []
+
+abbrev pub one_young : List (List Place)
+one_young = (place.Young ∷ []) ∷ []
+
+abbrev pub one_promoted : List (List Place)
+one_promoted = (place.Zygote zygote_base ∷ []) ∷ []

@@ -4,4 +4,5 @@ pub mod Labels
 pub mod Named
 pub mod Outward
 pub mod Promotions
+pub mod Wanting
 pub mod Worlds

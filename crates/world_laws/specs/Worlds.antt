@@ -2,7 +2,7 @@
 use Rattle.std.specs.Prelude.{◌≡◌, ℕ, ◌+◌, ◌≤◌, false, List, [], ◌∷◌}
 use Rattle.std.specs.List.{list_any}
 use Rattle.class_layout.specs.Names.{same_name}
-use Rattle.heap_world.specs.Formed.{HasFewFields}
+use Rattle.heap_world.specs.Commands.{HasFewFields}
 use Rattle.heap_world.specs.Run.{Line}
 use Rattle.heap_world.specs.Sound.{IsSound}
 use Rattle.heap_world.specs.World.{Process, World}

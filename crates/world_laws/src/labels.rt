@@ -5,7 +5,7 @@ ghost use Rattle.class_layout.specs.Placing.{IsIn};
 ghost use Rattle.heap_world.specs.declared.command.Command.{Command};
 ghost use Rattle.heap_world.specs.declared.names.Label.{Label};
 ghost use Rattle.heap_world.specs.declared.names.PageName.{PageName};
-ghost use Rattle.heap_world.specs.Formed.{HasFewFields};
+ghost use Rattle.heap_world.specs.Commands.{HasFewFields};
 ghost use Rattle.heap_world.specs.World.{Process, World, label_of, step};
 ghost use Rattle.world_laws.specs.Labels.{AddsOwn, AreEarlier, AreLabelled, HasEarlier, HaveLikeLarge, HaveOneLine, HaveOwnLines, IsLabelled, IsOwn};
 ghost use Rattle.world_laws.specs.Named.{is_named};

@@ -20,4 +20,7 @@ pub use parts::{
     forks_promote, noted_cards_lie_within, objects_stand_on_standing_pages,
     outward_slots_are_touched, slots_note_their_own_card, stores_touch_their_own_page,
 };
-pub use worlds::{refused_lines_leave_the_world, worlds_are_sound, worlds_stay_in_order};
+pub use worlds::{
+    left_worlds_stay_in_order, refused_lines_leave_the_world, worlds_are_sound,
+    worlds_stay_in_order,
+};

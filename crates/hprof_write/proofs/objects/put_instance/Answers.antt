@@ -6,7 +6,7 @@ use Rattle.class_layout.specs.Placing.{IsIn}
 use Rattle.heap_graph.specs.declared.names.Shape.{Shape}
 use Rattle.heap_graph.specs.declared.names.Shape.TheVariants.{Instance}
 use Rattle.heap_graph.specs.Graph.{Graph, Object}
-use Rattle.object_view.specs.Objects.{places_of}
+use Rattle.heap_graph.specs.Places.{places_of}
 use Rattle.hprof_write.specs.Objects.{HasValues, dumped_places, values_bytes}
 use Rattle.hprof_write.proofs.ArrayParts.{instance-is}
 use Rattle.hprof_write.proofs.objects.put_instance.Goals as goal

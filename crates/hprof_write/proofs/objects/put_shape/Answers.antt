@@ -7,7 +7,8 @@ use Rattle.class_layout.specs.Placing.{IsIn}
 use Rattle.heap_graph.specs.declared.names.Shape.{Shape}
 use Rattle.heap_graph.specs.declared.names.Shape.TheVariants.{Array}
 use Rattle.heap_graph.specs.Sizes.{is_too_large, unrounded}
-use Rattle.object_view.specs.Objects.{IsKnown, elements_from, places_of}
+use Rattle.heap_graph.specs.Places.{elements_from, places_of}
+use Rattle.object_view.specs.Objects.{IsKnown}
 use Rattle.hprof_records.specs.Parts.{bytes_of_part}
 use Rattle.hprof_write.specs.Objects.{HasValues, dumped_places, shape_part}
 use Rattle.hprof_write.proofs.ArrayParts.{array-put}

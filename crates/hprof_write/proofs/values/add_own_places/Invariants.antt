@@ -3,7 +3,7 @@ use Rattle.class_layout.specs.declared.kind.FieldAt.{FieldAt}
 use Rattle.class_layout.specs.ClassList.{own_fields_of}
 use Rattle.class_layout.specs.Placing.{IsIn}
 use Rattle.heap_graph.specs.declared.names.Shape.TheVariants.{Instance}
-use Rattle.object_view.specs.Objects.{places_of}
+use Rattle.heap_graph.specs.Places.{places_of}
 use Rattle.hprof_write.specs.Objects.{own_places}
 use Rattle.hprof_write.proofs.values.add_own_places.Given as goal
 

@@ -1,11 +1,11 @@
 use Rattle.std.proofs.Common.{◌++◌, List, Some, suc, arith, subst, ap}
 use Rattle.class_layout.specs.declared.kind.FieldAt.{FieldAt}
 use Rattle.class_layout.specs.Placing.{IsIn}
+use Rattle.class_layout.proofs.Declared.{superclass-places}
 use Rattle.heap_graph.specs.declared.names.Shape.TheVariants.{Instance}
-use Rattle.object_view.specs.Objects.{places_of}
+use Rattle.heap_graph.specs.Places.{places_of}
 use Rattle.hprof_write.specs.Objects.{dumped_places, own_places, places_up}
 use Rattle.hprof_write.proofs.Chains.{parent-earlier, up-more, within-more}
-use Rattle.hprof_write.proofs.InstancePlaces.{parent-places}
 use Rattle.hprof_write.proofs.values.dumped_places.Goals as goal
 
 pub loop-places-init : goal.loop-places-init
@@ -34,7 +34,7 @@ loop-places-preserved c =
           c.count-all.ensures.formed c.in-Some.ensures inv.places c.in_ok-add_own_places.ensures.places;
       within = within-more (λ (p : FieldAt). IsIn p (places_of cs (Instance c.args.class))) c.loop-places.places.items (own_places cs c.loop-places.at) c.add_own_places.new.places.items
           c.in_ok-add_own_places.ensures.places inv.within (λ p own. inv.under p (c.in_ok-add_own_places.ensures.within p own));
-      under = λ p there. inv.under p (parent-places cs c.loop-places.at c.in-Some.parent p c.count-all.ensures.formed c.in-Some.ensures there);
+      under = λ p there. inv.under p (superclass-places cs c.loop-places.at c.in-Some.parent p c.count-all.ensures.formed c.in-Some.ensures there);
     }
 
 pub returns-in-None-clause-within : goal.returns-in-None-clause-within

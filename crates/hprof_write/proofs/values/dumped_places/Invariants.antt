@@ -2,7 +2,7 @@ use Rattle.std.proofs.Common.{◌≡◌, ◌<◌, ◌++◌, suc, Some, length}
 use Rattle.class_layout.specs.declared.kind.FieldAt.{FieldAt}
 use Rattle.class_layout.specs.Placing.{IsIn}
 use Rattle.heap_graph.specs.declared.names.Shape.TheVariants.{Instance}
-use Rattle.object_view.specs.Objects.{places_of}
+use Rattle.heap_graph.specs.Places.{places_of}
 use Rattle.hprof_write.specs.Objects.{dumped_places, places_up}
 use Rattle.hprof_write.proofs.values.dumped_places.Given as goal
 

@@ -1,6 +1,6 @@
 use Rattle.std.proofs.Common.{◌∙◌, false, ◌≤◌, ◌++◌, length, arith, ap}
 use Rattle.std.proofs.lemmas.List.{take_all}
-use Rattle.object_view.specs.Objects.{elements_from}
+use Rattle.heap_graph.specs.Places.{elements_from}
 use Rattle.object_view.specs.Seen.{is_in_window}
 use Rattle.hprof_write.specs.Objects.{values_bytes}
 use Rattle.hprof_write.proofs.ValuesAt.{element-is, has-there, length-elements, reads-there, values-there}

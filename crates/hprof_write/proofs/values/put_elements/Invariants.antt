@@ -1,6 +1,6 @@
 use Rattle.std.proofs.Common.{◌≡◌, ◌++◌, take}
 use Rattle.heap_graph.specs.Graph.{Object}
-use Rattle.object_view.specs.Objects.{elements_from}
+use Rattle.heap_graph.specs.Places.{elements_from}
 use Rattle.object_view.specs.Seen.{count_if, is_in_window, RoseBy}
 use Rattle.hprof_write.specs.Objects.{values_bytes, HasValues}
 use Rattle.hprof_write.proofs.values.put_elements.Given as goal

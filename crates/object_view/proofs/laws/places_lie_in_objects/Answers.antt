@@ -1,6 +1,7 @@
 use Rattle.std.proofs.Common.{arith, refl}
 use Rattle.class_layout.specs.ClassList.{layout_of}
-use Rattle.object_view.proofs.Laid.{element-in, found-in, place-within, reference-in}
+use Rattle.heap_graph.proofs.Places.{element-in, found-in}
+use Rattle.object_view.proofs.Laid.{place-within, reference-in}
 use Rattle.object_view.proofs.laws.places_lie_in_objects.Goals as goal
 
 pub returns-clause-field : goal.returns-clause-field

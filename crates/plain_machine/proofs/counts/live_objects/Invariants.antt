@@ -1,6 +1,6 @@
 use Rattle.std.proofs.Common.{◌≡◌, ◌*◌, ◌^◌, ◌≤◌, map, sum, take}
 use Rattle.heap_world.specs.World.{live}
-use Rattle.plain_machine.specs.Counts.{objects_in}
+use Rattle.heap_world.specs.Counts.{objects_in}
 use Rattle.plain_machine.proofs.counts.live_objects.Given as goal
 
 abbrev pub invariant-loop-q : goal.invariant-loop-q

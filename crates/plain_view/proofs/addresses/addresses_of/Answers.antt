@@ -1,7 +1,7 @@
 use Rattle.std.proofs.Common.{◌≡◌, ℕ, ◌*◌, ◌^◌, ◌<◌, ◌≤◌, List, [], ◌∷◌, ◌++◌, ap, sym, subst, ◌∙◌, append_assoc, arith}
 use Rattle.class_layout.specs.ClassList.{Class}
 use Rattle.heap_graph.specs.Graph.{Object}
-use Rattle.heap_world.specs.Formed.{AreObjects}
+use Rattle.heap_graph.specs.Formed.{AreObjects}
 use Rattle.model_numbers.specs.Numbers.{large_slot_count, most_regions, region_bytes}
 use Rattle.address_table.specs.Computed.{address_in, addresses_from, end_behind, first_homes, large_behind, large_count, Homes}
 use Rattle.address_table.proofs.Behind.{count-rises, last-rises, last_end}

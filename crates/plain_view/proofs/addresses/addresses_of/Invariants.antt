@@ -1,7 +1,7 @@
 use Rattle.std.proofs.Common.{◌≡◌, ◌*◌, ◌≤◌, ◌++◌, length}
 use Rattle.address_table.specs.Computed.{addresses_from, first_homes, large_count}
 use Rattle.address_table.proofs.Behind.{last_end}
-use Rattle.heap_world.specs.Formed.{AreObjects}
+use Rattle.heap_graph.specs.Formed.{AreObjects}
 use Rattle.model_numbers.specs.Numbers.{large_slot_count, region_bytes}
 use Rattle.plain_view.proofs.addresses.addresses_of.Given as goal
 

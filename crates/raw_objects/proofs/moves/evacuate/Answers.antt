@@ -1,9 +1,9 @@
-use Rattle.std.proofs.Common.{◌≡◌, ◌∙◌, ◌+◌, true, refl, inl, ap, sym, subst, arith}
+use Rattle.std.proofs.Common.{◌≡◌, ◌∙◌, ◌+◌, ◌/◌, true, refl, inl, ap, sym, subst, arith}
 use Rattle.std.proofs.lemmas.Result.{on_err_weaker, on_ok_weaker}
 use Rattle.cow_pages.specs.Address.{page_of}
 use Rattle.cow_pages.specs.Memory.{Memory}
 use Rattle.cow_pages.specs.View.{view_of}
-use Rattle.object_view.proofs.Outcomes.{on_err}
+use Rattle.object_view.proofs.Outcomes.{on_err, on_ok}
 use Rattle.raw_objects.specs.Raws.{HoldsRaws}
 use Rattle.raw_objects.proofs.Kept.{keeps-put, keeps-then, keeps-words, object-page}
 use Rattle.raw_objects.proofs.Raws.{raws-beside, raws-evacuated-by}
@@ -46,3 +46,12 @@ returns-clause-succeeds c spaces one =
     let keeps = keeps-words c.copy_object.result c.args.frames.now c.copy_object.new.frames c.args.t.0 c.args.to.0 c.args.size (λ p. true) c.copy_object.ensures.pages (c.copy_object.ensures.sound c.requires.some)
     c.copy_object.ensures.bytes.mapped c.copy_object.ensures.written c.copy_object.ensures.partly (λ p low high. refl) in
     c.set_forward.ensures.succeeds (inl (keeps.alone (page_of c.args.from.0) (object-page c.args.frames.now c.args.t.0 c.args.from.0 c.args.size c.requires.from_space c.requires.some) one))
+
+pub returns-clause-reads : goal.returns-clause-reads
+returns-clause-reads c = on_ok c.set_forward.result (c.set_forward.ensures.reads ∙ c.in_ok-copy_object.ensures.reads)
+
+pub returns-clause-fewer_reads : goal.returns-clause-fewer_reads
+returns-clause-fewer_reads c = on_err c.set_forward.result (c.args.size / 8, omega arith, c.set_forward.ensures.reads ∙ c.in_ok-copy_object.ensures.reads)
+
+pub returns-in_err-copy_object-clause-fewer_reads : goal.returns-in_err-copy_object-clause-fewer_reads
+returns-in_err-copy_object-clause-fewer_reads c = on_err c.from_residual.result c.in_err-copy_object.ensures.fewer_reads

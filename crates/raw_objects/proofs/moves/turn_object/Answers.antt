@@ -10,11 +10,12 @@ use Rattle.object_view.proofs.Outcomes.{on_err}
 use Rattle.raw_objects.specs.Raws.{raw_size, HoldsRaws, Raws}
 use Rattle.raw_objects.specs.References.{is_first_reference}
 use Rattle.raw_objects.proofs.Kept.{covered, keeps-none, keeps-read, keeps-then, page-in, space-page}
+use Rattle.raw_objects.proofs.Uncounted.{slot-free}
 use Rattle.raw_objects.proofs.Turned.{first-last, first-more, no-slot, none-last, object-held, raws-read, slot-readable, turned_first, turning}
 use Rattle.raw_objects.proofs.moves.turn_object.Goals as goal
 
 pub loop-k-init : goal.loop-k-init
-loop-k-init c = record { held = λ raws done ok. ok.holds; keeps = λ raws done may ok covers. keeps-none c.args.frames.now c.args.t.0 may; sound = λ s. s }
+loop-k-init c = record { held = λ raws done ok. ok.holds; keeps = λ raws done may ok covers. keeps-none c.args.frames.now c.args.t.0 may; reads = λ is. refl; sound = λ s. s }
 
 pub ref_slot-requires : goal.ref_slot-requires
 ref_slot-requires c =
@@ -72,6 +73,14 @@ loop-k-preserved c =
           keeps-then c.args.frames.now c.ref_slot.new.frames c.turn_slot.new.frames t may
           (keeps-then c.args.frames.now c.loop-k.frames c.ref_slot.new.frames t may (c.loop-k.invariant.keeps raws done may ok covers) (keeps-read c.loop-k.frames c.ref_slot.new.frames t _ may (c.ref_slot.ensures.reads (raws.raw at).shape shape)))
           (c.turn_slot.ensures.keeps may (covered at (raw_size cs raws at) it.place.offset c.in-Some.slot.at.0 may it.at_is it.within covers));
+      reads = λ is.
+          let raws : Raws = c.requires.0 in
+          let ok = c.requires.2 in
+          let h = c.loop-k.invariant.held raws c.requires.1 ok in
+          let shape = (object-held cs _ (turned_first cs raws c.requires.1 at c.loop-k.k) at h ok.has).has_shape in
+          c.turn_slot.ensures.reads ∙ ap (λ (m : Memory). m.reads) (c.ref_slot.ensures.reads (raws.raw at).shape shape)
+          ∙ slot-free (view_of c.loop-k.frames t) c.loop-k.frames.reads at (raws.raw at).shape c.ref_slot.result (reference_place cs (raws.raw at).shape c.loop-k.k) is (c.ref_slot.ensures.slot (raws.raw at).shape shape)
+          ∙ c.loop-k.invariant.reads is;
       sound = λ s. c.turn_slot.ensures.sound c.ref_slot.ensures.sound;
     }
 
@@ -141,3 +150,29 @@ returns-in_err-turn_slot-clause-err c = on_err c.from_residual.result (λ raws d
     let shape = (object-held cs _ now at h ok.has).has_shape in
     let read : HoldsRaws cs (view_of c.ref_slot.new.frames t) now = raws-read cs _ _ t _ now (c.ref_slot.ensures.reads (raws.raw at).shape shape) h in
     (c.loop-k.k, subst (λ (m : Memory). HoldsRaws cs (view_of m t) now) (sym c.in_err-turn_slot.ensures.err) read))
+
+pub returns-in_default-clause-reads : goal.returns-in_default-clause-reads
+returns-in_default-clause-reads c is =
+    let cs = c.args.classes.now in
+    let t : ℕ = c.args.t.0 in
+    let at : ℕ = c.args.at.0 in
+    let raws : Raws = c.requires.0 in
+    let ok = c.requires.2 in
+    let h = c.loop-k.invariant.held raws c.requires.1 ok in
+    let shape = (object-held cs _ (turned_first cs raws c.requires.1 at c.loop-k.k) at h ok.has).has_shape in
+    ap (λ (m : Memory). m.reads) (c.ref_slot.ensures.reads (raws.raw at).shape shape)
+    ∙ slot-free (view_of c.loop-k.frames t) c.loop-k.frames.reads at (raws.raw at).shape c.ref_slot.result (reference_place cs (raws.raw at).shape c.loop-k.k) is (c.ref_slot.ensures.slot (raws.raw at).shape shape)
+    ∙ c.loop-k.invariant.reads is
+
+pub returns-in_err-turn_slot-clause-reads : goal.returns-in_err-turn_slot-clause-reads
+returns-in_err-turn_slot-clause-reads c is =
+    let cs = c.args.classes.now in
+    let t : ℕ = c.args.t.0 in
+    let at : ℕ = c.args.at.0 in
+    let raws : Raws = c.requires.0 in
+    let ok = c.requires.2 in
+    let h = c.loop-k.invariant.held raws c.requires.1 ok in
+    let shape = (object-held cs _ (turned_first cs raws c.requires.1 at c.loop-k.k) at h ok.has).has_shape in
+    c.turn_slot.ensures.reads ∙ ap (λ (m : Memory). m.reads) (c.ref_slot.ensures.reads (raws.raw at).shape shape)
+    ∙ slot-free (view_of c.loop-k.frames t) c.loop-k.frames.reads at (raws.raw at).shape c.ref_slot.result (reference_place cs (raws.raw at).shape c.loop-k.k) is (c.ref_slot.ensures.slot (raws.raw at).shape shape)
+    ∙ c.loop-k.invariant.reads is

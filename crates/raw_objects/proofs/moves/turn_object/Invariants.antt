@@ -1,9 +1,9 @@
-use Rattle.std.proofs.Common.{ℕ, Bool}
+use Rattle.std.proofs.Common.{◌≡◌, ℕ, Bool, true}
 use Rattle.cow_pages.specs.Memory.{IsSound}
 use Rattle.cow_pages.specs.View.{view_of}
 use Rattle.raw_objects.specs.Keeps.{Covers, Keeps}
 use Rattle.raw_objects.specs.Raws.{raw_size, HoldsRaws, Raws}
-use Rattle.raw_objects.specs.References.{IsTurnable}
+use Rattle.raw_objects.specs.References.{in_regions, IsTurnable}
 use Rattle.raw_objects.proofs.Turned.{turned_first}
 use Rattle.raw_objects.proofs.moves.turn_object.Given as goal
 
@@ -12,5 +12,6 @@ abbrev pub invariant-loop-k : goal.invariant-loop-k
 invariant-loop-k l = record {
   held : (raws : Raws) (done : ℕ → Bool) → IsTurnable l.classes (view_of l.fn.frames l.t.0) raws done l.at.0 → HoldsRaws l.classes (view_of l.frames l.t.0) (turned_first l.classes raws done l.at.0 l.k);
   keeps : (raws : Raws) (done may : ℕ → Bool) → IsTurnable l.classes (view_of l.fn.frames l.t.0) raws done l.at.0 → Covers may l.at.0 (raw_size l.classes raws l.at.0) → Keeps l.fn.frames l.frames l.t.0 may;
+  reads : in_regions l.at.0 ≡ true → l.frames.reads ≡ l.fn.frames.reads;
   sound : IsSound l.fn.frames → IsSound l.frames;
 }

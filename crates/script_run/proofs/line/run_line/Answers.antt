@@ -3,6 +3,9 @@ use Rattle.std.proofs.lemmas.Result.{err_from_is_err_and}
 use Rattle.script_lang.specs.FedLines.{fed_line}
 use Rattle.script_lang.specs.Feeding.{line_at}
 use Rattle.script_report.specs.Report.{step_line, world_of}
+use Rattle.script_report.proofs.Wanting.{labels_of_lines}
+use Rattle.script_report.specs.Wanting.{line_left}
+use Rattle.world_laws.specs.Labels.{AreEarlier}
 use Rattle.script_run.specs.Outside.{Output, output_of}
 use Rattle.script_run.specs.Progress.{RanLine, StoppedLine}
 use Rattle.script_run.proofs.Lines.{runs_behind, stops_behind}
@@ -18,7 +21,7 @@ returns-clause-done g c = λ s before line old refused whole timed number kept h
     let new : Output = output_of (told c.answer_line.new.sink) (faults c.answer_line.new.sink) (g.F.Shelf.shelved c.answer_line.new.shelf) (g.F.Shelf.fault_count c.answer_line.new.shelf) c.answer_line.new.machine in
     runs_behind s before line fed.number refused old mid new had (ap (λ l. l.number) is ∙ number) c.answer_line.ensures.never_falls c.answer_line.ensures.shelf_never_falls c.in_ok-refused.refused
     (subst (λ t. RanLine t fed.number (step_line (world_of s.budget before) fed.number line) c.in_ok-refused.refused mid new) (sym timed)
-    (c.in_ok-refused.ensures.done (world_of s.budget before) line had.ran.stands (ap (λ l. l.kept) is ∙ kept)))
+    (c.in_ok-refused.ensures.done (world_of s.budget before) line had.ran.stands (subst (λ k. AreEarlier k (world_of s.budget before)) (sym (ap (λ l. l.number) is ∙ number)) (labels_of_lines s.budget before)) (ap (λ l. l.kept) is ∙ kept)))
 
 pub returns-in_err-refused-clause-done : goal.returns-in_err-refused-clause-done
 returns-in_err-refused-clause-done g c = λ s before line old refused whole timed number kept had.
@@ -31,5 +34,5 @@ returns-in_err-refused-clause-done g c = λ s before line old refused whole time
     let p = err_from_is_err_and c.from_residual.result c.from_residual.ensures.1 in
     rw (p.1, p.2)
     (stops_behind s before line fed.number refused old mid new had (ap (λ l. l.number) is ∙ number) c.answer_line.ensures.never_falls c.answer_line.ensures.shelf_never_falls c.in_err-refused.field-0.0
-    (subst (λ t. StoppedLine c.in_err-refused.field-0.0 t fed.number (step_line (world_of s.budget before) fed.number line) mid new) (sym timed)
-    (c.in_err-refused.ensures.done (world_of s.budget before) line had.ran.stands (ap (λ l. l.kept) is ∙ kept))))
+    (subst (λ t. StoppedLine c.in_err-refused.field-0.0 t fed.number (step_line (world_of s.budget before) fed.number line) (line_left (world_of s.budget before) fed.number line) mid new) (sym timed)
+    (c.in_err-refused.ensures.done (world_of s.budget before) line had.ran.stands (subst (λ k. AreEarlier k (world_of s.budget before)) (sym (ap (λ l. l.number) is ∙ number)) (labels_of_lines s.budget before)) (ap (λ l. l.kept) is ∙ kept))))

@@ -1,4 +1,4 @@
-use Rattle.std.proofs.Common.{refl}
+use Rattle.std.proofs.Common.{inl, inr, refl}
 use Rattle.std.proofs.lemmas.Result.{err_from_is_err_and}
 use Rattle.script_run.specs.Outside.{Outside, Setting, outside_of, output_of}
 use Rattle.script_run.proofs.Inputs.{not_begun, run_over, turns_begin}
@@ -39,10 +39,10 @@ pub returns-in_err-prepare-clause-ended : goal.returns-in_err-prepare-clause-end
 returns-in_err-prepare-clause-ended g c =
     let p = err_from_is_err_and c.from_residual.result c.from_residual.ensures.1 in
     rw (p.1, p.2)
-    (not_begun (record { budget = c.args.regions; time = c.args.time }) (g.S.Source.left c.args.source.now) (g.S.Source.fault_count c.args.source.now) (output_of (g.W.Sink.gained c.args.sink.now) (g.W.Sink.fault_count c.args.sink.now) (g.F.Shelf.shelved c.args.shelf.now) (g.F.Shelf.fault_count c.args.shelf.now) c.args.machine.now) c.prepare.new.self)
+    (not_begun (record { budget = c.args.regions; time = c.args.time }) (g.S.Source.left c.args.source.now) (g.S.Source.fault_count c.args.source.now) (output_of (g.W.Sink.gained c.args.sink.now) (g.W.Sink.fault_count c.args.sink.now) (g.F.Shelf.shelved c.args.shelf.now) (g.F.Shelf.fault_count c.args.shelf.now) c.args.machine.now) c.prepare.new.self (inl c.in_err-prepare.ensures.err))
 
 pub returns-in_err-new-clause-ended : goal.returns-in_err-new-clause-ended
 returns-in_err-new-clause-ended g c =
     let p = err_from_is_err_and c.from_residual-in_err-new.result c.from_residual-in_err-new.ensures.1 in
     rw (p.1, p.2)
-    (not_begun (record { budget = c.args.regions; time = c.args.time }) (g.S.Source.left c.args.source.now) (g.S.Source.fault_count c.args.source.now) (output_of (g.W.Sink.gained c.args.sink.now) (g.W.Sink.fault_count c.args.sink.now) (g.F.Shelf.shelved c.args.shelf.now) (g.F.Shelf.fault_count c.args.shelf.now) c.args.machine.now) c.prepare.new.self)
+    (not_begun (record { budget = c.args.regions; time = c.args.time }) (g.S.Source.left c.args.source.now) (g.S.Source.fault_count c.args.source.now) (output_of (g.W.Sink.gained c.args.sink.now) (g.W.Sink.fault_count c.args.sink.now) (g.F.Shelf.shelved c.args.shelf.now) (g.F.Shelf.fault_count c.args.shelf.now) c.args.machine.now) c.prepare.new.self (inr c.in_ok-prepare.ensures.ok))

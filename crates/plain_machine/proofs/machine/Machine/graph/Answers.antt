@@ -1,5 +1,5 @@
 use Rattle.std.proofs.Common.{◌≡◌, Some, sym, subst}
-use Rattle.heap_world.specs.Formed.{IsFormed}
+use Rattle.heap_graph.specs.Formed.{IsFormed}
 use Rattle.heap_world.specs.World.{live, process_named}
 use Rattle.plain_machine.proofs.Live.{sound_named}
 use Rattle.plain_machine.proofs.machine.Machine.graph.Goals as goal

@@ -1,6 +1,6 @@
 use Rattle.std.proofs.Common.{◌≡◌, ◌≤◌, length, rules, subst, sym}
 use Rattle.heap_graph.specs.Collection.{collect, loose_count}
-use Rattle.heap_world.specs.Formed.{IsFormed}
+use Rattle.heap_graph.specs.Formed.{IsFormed}
 use Rattle.heap_world.proofs.FormedKept.{collect_formed}
 use Rattle.plain_machine.proofs.Collected.{collected_fewer, loose_fewer}
 use Rattle.plain_machine.proofs.part.Part.collected.Goals as goal

@@ -9,7 +9,7 @@ use Rattle.heap_graph.specs.declared.names.Content.{Content}
 use Rattle.heap_graph.specs.Graph.{Graph, Object}
 use Rattle.heap_graph.specs.Table.{Fits}
 use Rattle.heap_graph.specs.Values.{value_at}
-use Rattle.heap_world.specs.Formed.{IsFormed}
+use Rattle.heap_graph.specs.Formed.{IsFormed}
 use Rattle.object_view.specs.Seen.{seen_value, value_in, HasValue}
 use Rattle.object_view.specs.Values.{is_value}
 use Rattle.plain_view.specs.Viewed.{first_table, Viewed}

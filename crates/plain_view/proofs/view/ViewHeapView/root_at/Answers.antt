@@ -1,6 +1,6 @@
 use Rattle.std.proofs.Common.{◌≡◌, ap, subst, ◌∙◌}
 use Rattle.heap_graph.specs.Graph.{Graph}
-use Rattle.heap_world.specs.Formed.{IsFormed}
+use Rattle.heap_graph.specs.Formed.{IsFormed}
 use Rattle.plain_view.specs.Viewed.{Viewed}
 use Rattle.plain_view.proofs.Shown.{root-null, root-value}
 use Rattle.plain_view.proofs.view.ViewHeapView.root_at.Goals as goal

@@ -1,5 +1,5 @@
 use Rattle.class_layout.proofs.Layouts.{layout_of-parts}
-use Rattle.class_layout.proofs.classes.layout_rule.Goals as goal
+use Rattle.class_layout.proofs.laws.layout_rule.Goals as goal
 
 pub returns : goal.returns
 returns c = layout_of-parts

@@ -1,7 +1,7 @@
 -- What holds of the graph of each process, after every line.
 use Rattle.std.specs.Prelude.{◌≡◌, ℕ, ◌+◌, ◌-◌, ◌*◌, ◌<◌, ◌≤◌, ◌⊎◌, Bool, true, false, ◌||◌, ◌&&◌, List, [], ◌∷◌, ◌++◌, Option, None, Some, length, nat_eq, slice_get, unwrap_or}
 use Rattle.std.specs.List.{list_any, AllByRecursion, IsDistinct}
-use Rattle.model_numbers.specs.Numbers.{image_base, image_length, zygote_base, zygote_length, page_bytes, most_regions, field_limit, number_limit}
+use Rattle.model_numbers.specs.Numbers.{image_base, image_length, zygote_base, zygote_length, page_bytes, most_regions, number_limit}
 use Rattle.class_layout.specs.declared.kind.Kind.{Kind}
 use Rattle.class_layout.specs.declared.kind.FieldAt.{FieldAt}
 use Rattle.class_layout.specs.ClassList.{Class, IsClassList, layout_of}
@@ -19,8 +19,6 @@ use Rattle.heap_graph.specs.Graph.{Graph, Object, image_fill, image_size, size_o
 use Rattle.heap_graph.specs.Packing.{costs, used}
 use Rattle.heap_graph.specs.Paths.{IsClosed}
 use Rattle.heap_graph.specs.Sizes.{is_large, is_too_large}
-use Rattle.heap_world.specs.declared.command.Verb.{Verb}
-use Rattle.heap_world.specs.declared.command.Verb.TheVariants as verb
 
 -- numbers rise, the first from low on, and all lie below the next one
 abbrev pub AreRising : ℕ → ℕ → List Object → Type 0
@@ -173,8 +171,3 @@ pub record IsFormed (g : Graph) : Type 0 where
   pub zygote_fits : zygote_fill g ≤ zygote_length
   -- the regions used, and what large objects cost, lie within the budget
   pub regions : used g + costs g ≤ g.budget
-
--- a class line declares at most 4,096 fields
-abbrev pub HasFewFields : Verb → Type 0
-HasFewFields (verb.Class name parent fields) = length fields ≤ field_limit
-HasFewFields v = Unit {0}
