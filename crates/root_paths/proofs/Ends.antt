@@ -1,16 +1,16 @@
 -- Where paths end, and how far nodes are from the roots.
-use Rattle.std.proofs.Common.{◌≡◌, ◌≢◌, ℕ, zero, suc, ◌+◌, ◌<◌, ◌≤◌, Bool, true, false, cond, ◌&&◌, ◌||◌, inl, inr, nat_eq, List, [], ◌∷◌, ◌++◌, map, length, get_or, Option, None, Some, is_some, refl, ap, sym, ◌∙◌, arith, subst}
+use Rattle.std.proofs.Common.{◌≡◌, ◌≢◌, ℕ, zero, suc, ◌+◌, ◌<◌, ◌≤◌, Bool, true, false, cond, ◌||◌, inl, inr, nat_eq, List, [], ◌∷◌, map, length, get_or, Option, None, Some, refl, ap, sym, ◌∙◌, arith, subst}
 use Rattle.std.specs.Prelude.{filter, All}
-use Rattle.std.specs.List.{find, flat_map, list_any, range_with_len}
+use Rattle.std.specs.List.{flat_map, list_any, range_with_len}
 use Rattle.std.specs.Option.{option_or}
-use Rattle.std.proofs.lemmas.Bool.{and_from, and_parts, both_ways, cases_eq, cases_lt, eq-eqb, eqb-true, ne_eqb, or_cases, or_left, or_right}
+use Rattle.std.proofs.lemmas.Bool.{both_ways, cases_eq, cases_lt, eq-eqb, eqb-true, or_cases, or_left, or_right}
 use Rattle.std.proofs.lemmas.List.{get_or-map}
-use Rattle.std.proofs.lemmas.List.Elements.{All-cons, All-head, All-tail, All-get_or}
+use Rattle.std.proofs.lemmas.List.Elements.{All-head, All-tail, All-get_or}
 use Rattle.std.proofs.lemmas.List.Folds.{list_any-append}
 use Rattle.dump_graph.specs.Graph.{Node, LeadsWithin}
-use Rattle.root_paths.specs.Paths.{numbers, is_root, targets, has_edge, ends, ends_with, dist, is_at, before}
+use Rattle.root_paths.specs.Paths.{is_root, targets, has_edge, ends, ends_with, dist, is_at}
 use Rattle.root_paths.specs.Levels.{dist_within}
-use Rattle.root_paths.proofs.Finding.{Finds, find-is, find-more, find-none, find-none-is, find-some, find-upto, is_at-found}
+use Rattle.root_paths.proofs.Finding.{Finds, find-is, find-more, find-none-is, find-some, find-upto, is_at-found}
 
 -- what passes is an element
 pub element-from : (p : ℕ → Bool) (xs : List ℕ) → list_any p xs ≡ true → (m : ℕ) × ((list_any (nat_eq m) xs ≡ true) × (p m ≡ true))
@@ -149,9 +149,9 @@ led-from-last g d n none is =
         elim (cases_eq d e) [
           | inl same ↦ ap (is_at d) found ∙ eq-eqb d e same
           | inr ne ↦ (let longer : ends_with g n (suc e) ≡ true = ends-to g m n e (within-finds g d m e found).passes edge in
-          let w = within-upto g d n (suc e) longer (omega arith) in
-          let f : Some w.0 ≡ None = sym w.1.0 ∙ none in
-          absurd cc)
+              let w = within-upto g d n (suc e) longer (omega arith) in
+              let f : Some w.0 ≡ None = sym w.1.0 ∙ none in
+              absurd cc)
         ]
 
 -- where no node is at the limit, every path ends with a node within it

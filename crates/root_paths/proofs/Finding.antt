@@ -1,8 +1,8 @@
 -- What a search through numbers in order finds.
-use Rattle.std.proofs.Common.{◌≡◌, ◌≢◌, ℕ, zero, suc, ◌+◌, ◌<◌, ◌≤◌, Bool, true, false, cond, ◌&&◌, ◌||◌, inl, inr, nat_eq, min, List, [], ◌∷◌, ◌++◌, Option, None, Some, refl, ap, sym, ◌∙◌, arith, subst, add-zero}
+use Rattle.std.proofs.Common.{◌≡◌, ℕ, zero, suc, ◌+◌, ◌<◌, ◌≤◌, Bool, true, false, cond, ◌&&◌, ◌||◌, inl, inr, nat_eq, min, Option, None, Some, refl, ap, sym, ◌∙◌, arith, subst, add-zero}
 use Rattle.std.specs.List.{find, range_with_len}
 use Rattle.std.specs.Option.{option_or}
-use Rattle.std.proofs.lemmas.Bool.{both_ways, cases_eq, cases_lt, eqb-true, ne_eqb, eq-eqb}
+use Rattle.std.proofs.lemmas.Bool.{both_ways, cases_eq, cases_lt, ne_eqb, eq-eqb}
 use Rattle.root_paths.specs.Paths.{is_at}
 
 -- a number passes, and none before it does
@@ -77,11 +77,16 @@ find-upto p n a k t ge lt = by (find p (range_with_len a n)) refl
   where
     by : (o : Option ℕ) → find p (range_with_len a n) ≡ o → (e : ℕ) × ((find p (range_with_len a n) ≡ Some e) × (e ≤ k))
     by None is = absurd (both_ways (p k) (find-none p n a is k ge lt) t)
-    by (Some e) is =
-        (e, (is, elim (cases_lt k e) [
+    by (Some e) is = (
+      e,
+      (
+        is,
+        elim (cases_lt k e) [
           | inl less ↦ absurd (both_ways (p k) ((find-some p n a e is).first k ge less) t)
           | inr more ↦ more
-        ]))
+        ],
+      ),
+    )
 
 -- one number more
 pub find-more : (p : ℕ → Bool) (n a : ℕ) → find p (range_with_len a (suc n)) ≡ option_or (find p (range_with_len a n)) (cond (p (a + n)) (Some (a + n)) None)
@@ -152,10 +157,10 @@ find-with p q x zero a ge lt = absurd (omega arith)
 find-with p q x (suc n) a ge lt =
     elim (cases_eq a x) [
       | inl e ↦ with-here a x (p a) (nat_eq a x) (q a) (q x) (find (λ m. (p m || nat_eq m x) && q m) (range_with_len (a + 1) n)) (find (λ m. p m && q m) (range_with_len (a + 1) n))
-      e (eq-eqb a x e) (ap q e)
-      (find-same (λ m. (p m || nat_eq m x) && q m) (λ m. p m && q m) n (a + 1) (λ k above below. ap (λ b. b && q k) (or-false (p k) (nat_eq k x) (ne_eqb k x (λ same. omega arith)))))
-      (least-above a (λ m. p m && q m) n)
+          e (eq-eqb a x e) (ap q e)
+          (find-same (λ m. (p m || nat_eq m x) && q m) (λ m. p m && q m) n (a + 1) (λ k above below. ap (λ b. b && q k) (or-false (p k) (nat_eq k x) (ne_eqb k x (λ same. omega arith)))))
+          (least-above a (λ m. p m && q m) n)
       | inr ne ↦ (let less : a < x = omega arith in
-      with-there a x (p a) (nat_eq a x) (q a) (q x) (find (λ m. (p m || nat_eq m x) && q m) (range_with_len (a + 1) n)) (find (λ m. p m && q m) (range_with_len (a + 1) n))
-      less (ne_eqb a x ne) (find-with p q x n (a + 1) (omega arith) (omega arith)))
+          with-there a x (p a) (nat_eq a x) (q a) (q x) (find (λ m. (p m || nat_eq m x) && q m) (range_with_len (a + 1) n)) (find (λ m. p m && q m) (range_with_len (a + 1) n))
+          less (ne_eqb a x ne) (find-with p q x n (a + 1) (omega arith) (omega arith)))
     ]

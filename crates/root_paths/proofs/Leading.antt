@@ -5,8 +5,8 @@ use Rattle.std.specs.Option.{option_or}
 use Rattle.std.proofs.lemmas.Bool.{eq-eqb, ne_eqb}
 use Rattle.std.proofs.lemmas.List.Folds.{list_any_more}
 use Rattle.dump_graph.specs.Graph.{Node}
-use Rattle.root_paths.specs.Paths.{numbers, targets, has_edge}
-use Rattle.root_paths.specs.Levels.{IsBelow, Led, MadeLevel, first_of, led, led_if, reach_by}
+use Rattle.root_paths.specs.Paths.{targets, has_edge}
+use Rattle.root_paths.specs.Levels.{IsBelow, Led, MadeLevel, first_of, led_if, reach_by}
 use Rattle.root_paths.specs.declared.levels.Reach.{Reach}
 use Rattle.root_paths.proofs.Finding.{find-none-is, find-same, find-with, least}
 

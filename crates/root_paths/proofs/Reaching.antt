@@ -1,9 +1,9 @@
 -- From level to level, until no node is at the last one.
-use Rattle.std.proofs.Common.{◌≡◌, ◌≢◌, ℕ, zero, suc, ◌+◌, ◌<◌, ◌≤◌, Bool, true, false, cond, ◌&&◌, ◌||◌, inl, inr, nat_eq, List, [], ◌∷◌, ◌++◌, map, length, get_or, take, drop, drop_of_length-le, Option, None, Some, is_some, is_none, refl, ap, sym, ◌∙◌, arith, subst}
+use Rattle.std.proofs.Common.{◌≡◌, ℕ, zero, suc, ◌+◌, ◌<◌, ◌≤◌, Bool, true, false, cond, ◌&&◌, inl, inr, nat_eq, List, [], ◌∷◌, ◌++◌, map, length, get_or, take, drop, drop_of_length-le, Option, None, Some, is_some, is_none, refl, ap, sym, ◌∙◌, arith, subst}
 use Rattle.std.specs.Prelude.{count_by, filter, All}
-use Rattle.std.specs.List.{find, list_any, range_with_len}
+use Rattle.std.specs.List.{list_any, range_with_len}
 use Rattle.std.specs.Option.{option_or}
-use Rattle.std.proofs.lemmas.Bool.{and_from, and_parts, both_ways, cases_eq, cases_lt, eq-eqb, eqb-true, ne_eqb}
+use Rattle.std.proofs.lemmas.Bool.{and_from, and_parts, both_ways, cases_lt, eq-eqb, ne_eqb}
 use Rattle.std.proofs.lemmas.List.Folds.{list_any_at}
 use Rattle.std.proofs.lemmas.List.FromFn.{get_or-map-range_with_len, length-map-range_with_len, map-range_with_len_more}
 use Rattle.std.proofs.lemmas.List.{append-nil, get_or-map, take_all}
@@ -12,7 +12,7 @@ use Rattle.dump_graph.specs.Graph.{Node, LeadsWithin}
 use Rattle.root_paths.specs.Paths.{numbers, is_root, has_edge, ends, ends_with, dist, is_at, before}
 use Rattle.root_paths.specs.Levels.{AreReached, IsBelow, MadeLevel, ReachedTo, before_of, dist_within, first_of, level_of, reach_by, root_reach}
 use Rattle.root_paths.specs.declared.levels.Reach.{Reach}
-use Rattle.root_paths.proofs.Finding.{Finds, find-none, find-none-is, find-same, find-some}
+use Rattle.root_paths.proofs.Finding.{find-none, find-same, find-some}
 use Rattle.root_paths.proofs.Ends.{any-filter-range, at-dist, ends-root, ends-within, last-leads, led-from-last, within-finds, within-is-dist, within-more}
 
 past : (xs : List (Option Reach)) (i : ℕ) → length xs ≤ i → get_or xs i None ≡ None

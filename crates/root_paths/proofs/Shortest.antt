@@ -1,17 +1,17 @@
 -- Paths, and how far nodes are from the roots.
-use Rattle.std.proofs.Common.{◌≡◌, ◌≢◌, ℕ, zero, suc, ◌+◌, ◌<◌, ◌≤◌, Bool, true, false, cond, ◌&&◌, ◌||◌, ◌⊎◌, inl, inr, not, nat_eq, List, [], ◌∷◌, ◌++◌, map, length, get_or, Option, None, Some, is_some, option_map, refl, ap, sym, ◌∙◌, arith, subst, length-append}
-use Rattle.std.specs.Prelude.{count_by, filter, All, unwrap_or, IsTrue}
-use Rattle.std.specs.List.{find, list_any, range_with_len}
+use Rattle.std.proofs.Common.{◌≡◌, ℕ, zero, suc, ◌+◌, ◌<◌, ◌≤◌, Bool, true, false, cond, ◌&&◌, ◌||◌, ◌⊎◌, inl, inr, not, nat_eq, List, [], ◌∷◌, ◌++◌, length, Option, None, Some, is_some, option_map, refl, ap, sym, ◌∙◌, arith, subst, length-append}
+use Rattle.std.specs.Prelude.{count_by, unwrap_or}
+use Rattle.std.specs.List.{list_any, range_with_len}
 use Rattle.std.specs.Option.{option_or}
-use Rattle.std.proofs.lemmas.Bool.{and_from, and_parts, both_ways, cases_eq, cases_lt, eq-eqb, eqb-true, or_left, or_parts, or_right}
+use Rattle.std.proofs.lemmas.Bool.{and_from, and_parts, both_ways, cases_eq, cases_lt, eq-eqb, eqb-true, or_parts}
 use Rattle.std.proofs.lemmas.List.FromFn.{length-range_with_len}
 use Rattle.std.proofs.lemmas.List.Sums.{count_by-le-length, sum_by-cons}
 use Rattle.dump_graph.specs.Graph.{Node, LeadsWithin}
-use Rattle.root_paths.specs.Paths.{numbers, is_root, targets, has_edge, Follows, IsPath, ends_with, dist, is_at, before, way}
+use Rattle.root_paths.specs.Paths.{numbers, is_root, has_edge, Follows, IsPath, ends_with, dist, is_at, before, way}
 use Rattle.root_paths.specs.Levels.{dist_within}
 use Rattle.root_paths.specs.Shortest.{last, EndsWith}
-use Rattle.root_paths.proofs.Finding.{Finds, find-none, find-some, find-upto}
-use Rattle.root_paths.proofs.Ends.{any-filter-range, element-from, element-to, ends-from, ends-root, ends-to, ends-within, none-farther, past-map, within-finds, within-is-dist, within-more}
+use Rattle.root_paths.proofs.Finding.{Finds, find-some, find-upto}
+use Rattle.root_paths.proofs.Ends.{any-filter-range, element-from, element-to, ends-from, ends-root, ends-to, none-farther, past-map, within-finds, within-is-dist, within-more}
 
 -- roots are nodes, and so is each node that has an edge
 pub root-within : (g : List Node) (n : ℕ) → is_root g n ≡ true → n < length g
@@ -213,11 +213,16 @@ pub ends-dist : (g : List Node) → LeadsWithin g → (n k : ℕ) → ends_with 
 ends-dist g lead n k is =
     let empty = empty-level g in
     let far = none-farther g empty.0 lead empty.1.1 k n is in
-    let d = sym (within-is-dist g empty.0 lead empty.1.0 empty.1.1 n) ∙ far.1.0 in
-    (far.0, (d, elim (cases_lt k far.0) [
-      | inl less ↦ absurd (both_ways (ends_with g n k) ((find-some (ends_with g n) (length g) 0 far.0 d).first k (omega arith) less) is)
-      | inr ge ↦ ge
-    ]))
+    let d = sym (within-is-dist g empty.0 lead empty.1.0 empty.1.1 n) ∙ far.1.0 in (
+      far.0,
+      (
+        d,
+        elim (cases_lt k far.0) [
+          | inl less ↦ absurd (both_ways (ends_with g n k) ((find-some (ends_with g n) (length g) 0 far.0 d).first k (omega arith) less) is)
+          | inr ge ↦ ge
+        ],
+      ),
+    )
 
 -- where a node has no distance, no path ends with it
 pub no-path : (g : List Node) → LeadsWithin g → (n : ℕ) (p : List ℕ) → dist g n ≡ None → IsPath g p → EndsWith n p → ⊥

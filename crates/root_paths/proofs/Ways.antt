@@ -1,12 +1,12 @@
 -- The path to a node, from the last node back.
-use Rattle.std.proofs.Common.{◌≡◌, ℕ, zero, suc, ◌+◌, ◌<◌, ◌≤◌, Bool, true, false, cond, ◌&&◌, nat_eq, List, [], ◌∷◌, ◌++◌, length, get_or, Option, None, Some, option_map, refl, ap, sym, ◌∙◌, arith, subst, append_assoc}
+use Rattle.std.proofs.Common.{◌≡◌, ℕ, zero, suc, ◌<◌, true, ◌&&◌, List, [], ◌∷◌, ◌++◌, length, get_or, Option, None, Some, option_map, refl, ap, sym, ◌∙◌, arith, subst, append_assoc}
 use Rattle.std.specs.Prelude.{All, reverse, unwrap_or}
 use Rattle.std.proofs.lemmas.Bool.{and_parts, eqb-true}
 use Rattle.std.proofs.lemmas.List.{reverse-append}
 use Rattle.std.proofs.lemmas.List.Elements.{All-head, All-push, All-tail}
 use Rattle.dump_graph.specs.Graph.{Node}
 use Rattle.root_paths.specs.Paths.{has_edge, dist, is_at, before, way}
-use Rattle.root_paths.specs.Levels.{AreReached, IsReachedAt, IsWayBack, before_of, level_of}
+use Rattle.root_paths.specs.Levels.{IsReachedAt, IsWayBack, before_of, level_of}
 use Rattle.root_paths.specs.declared.levels.Reach.{Reach}
 use Rattle.root_paths.proofs.Finding.{find-some}
 

@@ -1,5 +1,5 @@
 -- What is told of an identifier and the roots.
-use Rattle.std.specs.Prelude.{ℕ, Bool, true, false, nat_le, List, [], ◌∷◌, ◌++◌, map, get_or, Option, None, Some, codes, decimal, if◌then◌else◌}
+use Rattle.std.specs.Prelude.{ℕ, Bool, true, nat_le, List, [], ◌∷◌, ◌++◌, map, get_or, Option, None, Some, codes, decimal, if◌then◌else◌}
 use Rattle.std.specs.List.{concat, flat_map}
 use Rattle.hprof_list.specs.Listing.{id_text}
 use Rattle.dump_graph.specs.Graph.{Node, number_of}

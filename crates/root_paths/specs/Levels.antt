@@ -1,5 +1,5 @@
 -- How the nodes are reached, level by level. These are words of the code.
-use Rattle.std.specs.Prelude.{◌≡◌, ℕ, suc, ◌+◌, ◌<◌, ◌≤◌, Bool, ◌&&◌, ◌||◌, nat_eq, min, List, ◌∷◌, ◌++◌, reverse, length, map, get_or, Option, None, Some, is_some, is_none, option_map, count_by, All, if◌then◌else◌}
+use Rattle.std.specs.Prelude.{◌≡◌, ℕ, suc, ◌+◌, ◌<◌, ◌≤◌, Bool, ◌&&◌, ◌||◌, nat_eq, min, List, ◌∷◌, ◌++◌, reverse, length, get_or, Option, None, Some, is_some, is_none, count_by, All, if◌then◌else◌}
 use Rattle.std.specs.List.{list_any, find, range_with_len}
 use Rattle.std.specs.Option.{option_or}
 use Rattle.dump_graph.specs.Graph.{Node}

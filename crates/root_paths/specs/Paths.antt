@@ -1,5 +1,5 @@
 -- Paths through a dump's graph, from a root along edges, and how far a node is from the roots. Nodes go by their numbers.
-use Rattle.std.specs.Prelude.{◌≡◌, ℕ, zero, suc, ◌<◌, Bool, true, false, ◌&&◌, IsTrue, nat_eq, List, [], ◌∷◌, ◌++◌, map, filter, length, get_or, Option, None, Some, option_map, unwrap_or}
+use Rattle.std.specs.Prelude.{ℕ, zero, suc, Bool, false, ◌&&◌, IsTrue, nat_eq, List, [], ◌∷◌, ◌++◌, map, filter, length, get_or, Option, None, Some, option_map, unwrap_or}
 use Rattle.std.specs.List.{flat_map, list_any, find, range_with_len}
 use Rattle.dump_graph.specs.Graph.{Node}
 

@@ -1,6 +1,6 @@
 -- What the telling of a path leaves.
-use Rattle.std.specs.Prelude.{◌≡◌, ℕ, ◌≤◌, List, Option, Result, MatchResult}
-use Rattle.ah_outside.specs.Outside.{FaultRose, Gained, GainedPrefix}
+use Rattle.std.specs.Prelude.{◌≡◌, ℕ, List, Option}
+use Rattle.ah_outside.specs.Outside.{FaultRose, GainedPrefix}
 use Rattle.root_paths.specs.declared.path_error.PathError.{PathError}
 use Rattle.root_paths.specs.declared.path_error.PathError.TheVariants.{SinkFault, OutOfMemory}
 

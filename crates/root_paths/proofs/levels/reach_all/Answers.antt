@@ -1,4 +1,4 @@
-use Rattle.std.proofs.Common.{◌≡◌, ◌+◌, ◌<◌, ℕ, arith, length, refl, sym}
+use Rattle.std.proofs.Common.{◌≡◌, ◌+◌, ◌<◌, arith, length, refl}
 use Rattle.std.proofs.lemmas.Grind.{common_steps}
 use Rattle.root_paths.proofs.Reaching.{all-reached, below-level, last-within, level-more, roots-reached, written-back}
 use Rattle.root_paths.proofs.levels.reach_all.Goals as goal

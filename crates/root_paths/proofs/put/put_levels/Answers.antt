@@ -1,4 +1,4 @@
-use Rattle.std.proofs.Common.{ℕ, arith, length}
+use Rattle.std.proofs.Common.{arith, length}
 use Rattle.std.proofs.lemmas.List.FromFn.{length-range_with_len}
 use Rattle.std.proofs.lemmas.Result.{err_from_is_err_and}
 use Rattle.hprof_list.proofs.Putting.{each_done, each_more, each_stop}
