@@ -1,13 +1,9 @@
 -- What is put of a text.
-use Rattle.std.proofs.Common.{◌≡◌, inl, inr, ℕ, ◌<◌, Bool, true, false, List, Option, Result, Ok, Err, MatchResult, refl}
+use Rattle.std.proofs.Common.{◌≡◌, inr, ℕ, Bool, true, false, List, Option, Result, Ok, Err, MatchResult, refl}
 use Rattle.ah_outside.specs.Outside.{FaultRose}
 use Rattle.hprof_read.specs.declared.read_error.ReadError.{ReadError}
 use Rattle.hprof_read.specs.Fault.{IsFirstFault}
 use Rattle.hprof_read.specs.declared.read_error.ReadError.TheVariants.{OutOfMemory}
-use Rattle.std.specs.Prelude.{◌^◌}
-use Rattle.hprof_records.specs.declared.top_record.TopRecord.{TopRecord}
-use Rattle.hprof_records.specs.Dump.{AreRecords}
-use Rattle.hprof_records.specs.Records.{dump_bytes}
 use Rattle.job_status.proofs.Inputs.{few_given}
 use Rattle.job_status.specs.declared.status.Status.{Status}
 use Rattle.job_status.specs.declared.status.Status.TheVariants as status
@@ -16,8 +12,8 @@ use Rattle.job_status.specs.declared.stop.Stop.TheVariants.{Read, Write, Shelf, 
 use Rattle.job_status.specs.Inputs.{HasFewLeft}
 use Rattle.job_status.specs.Status.{stop_status}
 use Rattle.read_job.specs.declared.question.Question.{Question}
-use Rattle.read_job.specs.Ends.{EndedRead, EndsTold, Streams, TookAll, fault_line, streams_of, told_of}
-use Rattle.read_job.specs.Telling.{StoppedDump, StoppedFault, StoppedTelling, Told, read_status}
+use Rattle.read_job.specs.Ends.{EndedRead, EndsTold, Streams, TookAll, fault_line, streams_of}
+use Rattle.read_job.specs.Telling.{StoppedFault, StoppedTelling, Told, read_status}
 
 -- where the line of a fault wasn't put whole, neither was the answer to a text with this first fault
 pub stops_telling : (question : Question) (stop : Stop) (e : ReadError) (text : List ℕ) (held : Option (List ℕ)) (writes : ℕ) (held' : Option (List ℕ)) (writes' : ℕ)
@@ -60,12 +56,3 @@ reading_completes question status.OutOfMemory old new ended few reads puts = tt
 reading_completes question status.ShelfFault old new ended few reads puts = absurd ended
 reading_completes question status.NotDump old new ended few reads puts = tt
 reading_completes question status.TooLong old new ended few reads puts = absurd (few_given old.left new.left ended.0.taken few ended.0.gave ended.0.too_many)
-
--- where what is asked of a dump wasn't put whole, neither was the answer to its text
-pub stops_dump : (question : Question) (stop : Stop) (time : ℕ) (records : List TopRecord) (text : List ℕ) (held : Option (List ℕ)) (writes : ℕ) (held' : Option (List ℕ)) (writes' : ℕ)
-    → time < 2 ^ 64 → AreRecords records → text ≡ dump_bytes time records → StoppedDump stop (told_of question time records) held writes held' writes' → StoppedTelling question stop text held writes held' writes'
-stops_dump question Read time records text held writes held' writes' small formed is s = absurd s
-stops_dump question Write time records text held writes held' writes' small formed is s = (told_of question time records, (inl (time, records, (small, formed, is, refl)), s.0, s.1))
-stops_dump question Shelf time records text held writes held' writes' small formed is s = absurd s
-stops_dump question Memory time records text held writes held' writes' small formed is s = s
-stops_dump question TooLong time records text held writes held' writes' small formed is s = absurd s
