@@ -1,4 +1,4 @@
-//! `artheap`: runs a script over a modelled heap of the Android Runtime, or lists a dump, from standard input to
+//! `artheap`: runs a script over a modelled heap of the Android Runtime, or lists a dump or tells a path in it, from standard input to
 //! standard output.
 #![tactic(auto)]
 
@@ -15,7 +15,7 @@ fn message(status: Status) -> Option<&'static str> {
     match status {
         Status::Ok | Status::Refused | Status::NotDump => None,
         Status::Usage => Some(
-            "usage: artheap run [--regions N] [--time T] | read | soak START COUNT [--regions N]",
+            "usage: artheap run [--regions N] [--time T] | read | path ID | soak START COUNT [--regions N]",
         ),
         Status::ReadFault => Some("artheap: read fault"),
         Status::WriteFault => Some("artheap: write fault"),

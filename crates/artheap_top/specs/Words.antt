@@ -1,5 +1,5 @@
 -- What the words of a call ask for.
-use Rattle.std.specs.Prelude.{ℕ, Bool, true, false, ◌<◌, ◌≤◌, ◌^◌, ◌&&◌, List, [], ◌∷◌, Option, None, Some, codes, decimal, nat_le, if◌then◌else◌}
+use Rattle.std.specs.Prelude.{ℕ, Bool, true, false, ◌+◌, ◌*◌, ◌-◌, ◌<◌, ◌≤◌, ◌^◌, ◌&&◌, List, [], ◌∷◌, Option, None, Some, codes, decimal, length, nat_eq, nat_le, option_and_then, option_map, if◌then◌else◌}
 use Rattle.class_layout.specs.Names.{same_name}
 use Rattle.model_numbers.specs.Numbers.{default_regions, most_regions}
 use Rattle.script_lang.specs.Numbers.{digits_number, number_up_to}
@@ -58,12 +58,34 @@ abbrev pub read_of : List (List ℕ) → Option Job
 read_of [] = Some job.Read
 read_of (word ∷ words) = None
 
--- the job that the words ask for: `run [--regions N] [--time T]`, `read` or `soak START COUNT [--regions N]`
+-- the number that a digit of base 16 stands for, in lower case
+abbrev pub digit_value : ℕ → Option ℕ
+digit_value digit =
+    if nat_le 0x30 digit && nat_le digit 0x39 then Some (digit - 0x30)
+    else if nat_le 0x61 digit && nat_le digit 0x66 then Some (digit - 0x61 + 10) else None
+
+-- a number with these digits behind it
+abbrev pub with_digits : ℕ → List ℕ → Option ℕ
+with_digits number [] = Some number
+with_digits number (digit ∷ digits) = option_and_then (λ value. with_digits (number * 16 + value) digits) (digit_value digit)
+
+-- the identifier that a word tells: 8 digits of base 16
+abbrev pub id_of : List ℕ → Option ℕ
+id_of word = if nat_eq (length word) 8 then with_digits 0 word else None
+
+-- `ID`
+abbrev pub path_of : List (List ℕ) → Option Job
+path_of [] = None
+path_of (word ∷ []) = option_map (λ id. job.Path id) (id_of word)
+path_of (word ∷ more ∷ words) = None
+
+-- the job that the words ask for: `run [--regions N] [--time T]`, `read`, `path ID` or `soak START COUNT [--regions N]`
 abbrev pub job_of : List (List ℕ) → Option Job
 job_of [] = None
 job_of (word ∷ words) =
     if same_name word (codes "run") then run_job words
     else if same_name word (codes "read") then read_of words
+    else if same_name word (codes "path") then path_of words
     else if same_name word (codes "soak") then soak_job words else None
 
 -- the job is a run
@@ -71,10 +93,12 @@ abbrev pub asks_run : Option Job → Bool
 asks_run None = false
 asks_run (Some (job.Run regions time)) = true
 asks_run (Some job.Read) = false
+asks_run (Some (job.Path id)) = false
 asks_run (Some (job.Soak start count regions)) = false
 
 -- the numbers of a job are within their bounds
 abbrev pub IsPossible : Job → Type 0
 IsPossible (job.Run regions time) = (1 ≤ regions) × (regions ≤ most_regions) × (time < 2 ^ 64)
 IsPossible job.Read = Unit {0}
+IsPossible (job.Path id) = Unit {0}
 IsPossible (job.Soak start count regions) = (start ≤ 2147483647) × (count ≤ 1000000) × (1 ≤ regions) × (regions ≤ most_regions)

@@ -14,7 +14,7 @@ use crate::words::{Job, job_of};
 use crate::{Machine, Status};
 use ah_outside::{Shelf, Sink, Source};
 use job_status::job_status;
-use read_job::list_input;
+use read_job::{Question, answer_input};
 use script_run::run_script;
 use std::alloc::Global;
 
@@ -25,7 +25,8 @@ use std::alloc::Global;
 /// sink as one piece before the next line is run and before more bytes are taken. A line that dumps first adds two entries
 /// to the shelf, `PROCESS.K.hprof` with the dump and `PROCESS.K.map` with the text of its table of addresses. T is the
 /// time in the headers of dumps, in milliseconds, and 0 if it isn't given. `read` takes a dump of at most as many bytes, and
-/// then puts its listing, or the line that tells its first fault. `soak START COUNT [--regions N]` runs the script that
+/// then puts its listing, or the line that tells its first fault. `path ID` takes a dump likewise, and tells a shortest path
+/// from a root to the object with the identifier of 8 digits of base 16. `soak START COUNT [--regions N]` runs the script that
 /// a generator makes of two numbers, START up to 2,147,483,647 and COUNT up to 1,000,000, and puts a summary. N is the
 /// budget of each process in regions, 1 to 512, and 64 if it isn't given.
 ///
@@ -43,7 +44,7 @@ pub fn artheap<S: Source, W: Sink, F: Shelf>(
     requires is_new { StandsFor machine.old empty_world }
     requires no_entry { (F.shelved shelf.old).unfinished ≡ false }
 
-    // What a run, a reading and a soak leave, status by status.
+    // What a run, a reading, the telling of a path and a soak leave, status by status.
     ensures run { (regions time : ℕ) → job_of (map string_bytes words.now) ≡ Some (Job.Run regions time) →
         let old = outside_of (S.left source.old) (S.fault_count source.old) (output_of (W.gained sink.old) (W.fault_count sink.old) (F.shelved shelf.old) (F.fault_count shelf.old) machine.old) in
         let new = outside_of (S.left source.new) (S.fault_count source.new) (output_of (W.gained sink.new) (W.fault_count sink.new) (F.shelved shelf.new) (F.fault_count shelf.new) machine.new) in
@@ -51,7 +52,11 @@ pub fn artheap<S: Source, W: Sink, F: Shelf>(
     ensures read { job_of (map string_bytes words.now) ≡ Some Job.Read →
         let old = streams_of (S.left source.old) (S.fault_count source.old) (W.gained sink.old) (W.fault_count sink.old) in
         let new = streams_of (S.left source.new) (S.fault_count source.new) (W.gained sink.new) (W.fault_count sink.new) in
-        (machine.new ≡ machine.old) × EndedRead result old new }
+        (machine.new ≡ machine.old) × EndedRead Question.Listing result old new }
+    ensures path { (id : ℕ) → job_of (map string_bytes words.now) ≡ Some (Job.Path id) →
+        let old = streams_of (S.left source.old) (S.fault_count source.old) (W.gained sink.old) (W.fault_count sink.old) in
+        let new = streams_of (S.left source.new) (S.fault_count source.new) (W.gained sink.new) (W.fault_count sink.new) in
+        (machine.new ≡ machine.old) × EndedRead (Question.Path id) result old new }
     ensures soak { (start count regions : ℕ) → job_of (map string_bytes words.now) ≡ Some (Job.Soak start count regions) →
         let old = soak_output (W.gained sink.old) (W.fault_count sink.old) machine.old in
         let new = soak_output (W.gained sink.new) (W.fault_count sink.new) machine.new in
@@ -67,6 +72,8 @@ pub fn artheap<S: Source, W: Sink, F: Shelf>(
         ¬ FaultRose (S.fault_count source.old) (S.fault_count source.new) → ¬ FaultRose (W.fault_count sink.old) (W.fault_count sink.new) →
         ¬ FaultRose (F.fault_count shelf.old) (F.fault_count shelf.new) → EndsWell result }
     ensures read_complete { job_of (map string_bytes words.now) ≡ Some Job.Read → HasFewLeft (S.left source.old) →
+        ¬ FaultRose (S.fault_count source.old) (S.fault_count source.new) → ¬ FaultRose (W.fault_count sink.old) (W.fault_count sink.new) → EndsTold result }
+    ensures path_complete { (id : ℕ) → job_of (map string_bytes words.now) ≡ Some (Job.Path id) → HasFewLeft (S.left source.old) →
         ¬ FaultRose (S.fault_count source.old) (S.fault_count source.new) → ¬ FaultRose (W.fault_count sink.old) (W.fault_count sink.new) → EndsTold result }
     ensures soak_complete { (start count regions : ℕ) → job_of (map string_bytes words.now) ≡ Some (Job.Soak start count regions) →
         ¬ FaultRose (W.fault_count sink.old) (W.fault_count sink.new) → EndsWell result }
@@ -84,7 +91,8 @@ pub fn artheap<S: Source, W: Sink, F: Shelf>(
         Some(Job::Run { regions, time }) => {
             job_status(run_script(alloc, regions, time, source, sink, shelf, machine))
         }
-        Some(Job::Read) => list_input(alloc, source, sink),
+        Some(Job::Read) => answer_input(alloc, Question::Listing, source, sink),
+        Some(Job::Path { id }) => answer_input(alloc, Question::Path { id }, source, sink),
         Some(
             Job::Soak {
                 start,

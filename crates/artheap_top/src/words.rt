@@ -1,7 +1,7 @@
-ghost use Rattle.std.specs.Prelude.{◌≡◌, ◌≤◌, map, string_bytes, IfSome};
+ghost use Rattle.std.specs.Prelude.{◌≡◌, ◌<◌, ◌≤◌, map, string_bytes, IfSome};
 ghost use Rattle.std.specs.Option.{option_copied};
 ghost use Rattle.model_numbers.specs.Numbers.{most_regions};
-ghost use Rattle.artheap_top.specs.Words.{IsPossible, job_of, number_within, option_regions, option_time, read_of, run_job, run_of, soak_job, soak_of};
+ghost use Rattle.artheap_top.specs.Words.{IsPossible, digit_value, id_of, job_of, number_within, option_regions, option_time, path_of, read_of, run_job, run_of, soak_job, soak_of};
 
 use model_numbers::{DEFAULT_REGIONS, MOST_REGIONS};
 use script_lang::{read_count, read_unsigned};
@@ -17,6 +17,10 @@ pub(crate) enum Job {
     },
     /// A dump from the source is read and listed.
     Read,
+    /// A dump from the source is read, and a shortest path from a root to the object with this identifier is told.
+    Path {
+        id: u32,
+    },
     /// A script that is generated from two numbers is run, and a summary put.
     Soak {
         start: u32,
@@ -92,6 +96,46 @@ fn read_of(words: &[String]) -> Option<Job>
     }
 }
 
+/// The number that a digit of base 16 stands for, in lower case.
+fn digit_value(digit: u8) -> Option<u32>
+    ensures value { result ≡ digit_value digit }
+    ensures below { IfSome result (λ value. value < 16) }
+{
+    match digit {
+        b'0'..=b'9' => Some(u32::from(digit - b'0')),
+        b'a'..=b'f' => Some(u32::from(digit - b'a') + 10),
+        _ => None,
+    }
+}
+
+/// The identifier that a word of 8 digits of base 16 tells.
+fn id_of(word: &[u8]) -> Option<u32>
+    ensures { result ≡ id_of word.now }
+{
+    if word.len() != 8 {
+        return None;
+    }
+    let mut id = 0;
+    for digit in word {
+        id = id * 16 + digit_value(*digit)?;
+    }
+    Some(id)
+}
+
+/// The telling of a path that the words behind `path` ask for.
+fn path_of(words: &[String]) -> Option<Job>
+    ensures job { result ≡ path_of (map string_bytes words.now) }
+    ensures possible { IfSome result IsPossible }
+{
+    match words {
+        [word] => {
+            let id = id_of(word.as_bytes())?;
+            Some(Job::Path { id })
+        }
+        _ => None,
+    }
+}
+
 /// The soak that the words behind `soak` ask for.
 fn soak_job(words: &[String]) -> Option<Job>
     ensures job { result ≡ soak_job (map string_bytes words.now) }
@@ -122,6 +166,8 @@ pub(crate) fn job_of(words: &[String]) -> Option<Job>
         run_job(more)
     } else if word.as_bytes() == b"read".as_slice() {
         read_of(more)
+    } else if word.as_bytes() == b"path".as_slice() {
+        path_of(more)
     } else if word.as_bytes() == b"soak".as_slice() {
         soak_job(more)
     } else {

@@ -1,4 +1,4 @@
-//! Tests of dumps: the front of a dump at each length, bytes that are no dump, a dump's records, listings, the shelf of a
+//! Tests of dumps: the front of a dump at each length, bytes that are no dump, a dump's records, listings, paths, the shelf of a
 //! run that dumps, and where that stops when its source, its sink or its shelf fails.
 #![tactic(auto)]
 
@@ -10,6 +10,8 @@ mod call;
 mod faults;
 #[cfg(test)]
 mod listings;
+#[cfg(test)]
+mod paths;
 #[cfg(test)]
 mod runs;
 #[cfg(test)]

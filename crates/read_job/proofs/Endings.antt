@@ -11,25 +11,26 @@ use Rattle.job_status.specs.declared.stop.Stop.{Stop}
 use Rattle.job_status.specs.declared.stop.Stop.TheVariants.{Read, Write, Shelf, Memory, TooLong}
 use Rattle.job_status.specs.Inputs.{HasFewLeft}
 use Rattle.job_status.specs.Status.{stop_status}
+use Rattle.read_job.specs.declared.question.Question.{Question}
 use Rattle.read_job.specs.Ends.{EndedRead, EndsTold, Streams, TookAll, fault_line, streams_of}
 use Rattle.read_job.specs.Telling.{StoppedFault, StoppedTelling, Told, read_status}
 
 -- where the line of a fault wasn't put whole, neither was the answer to a text with this first fault
-pub stops_telling : (stop : Stop) (e : ReadError) (text : List ℕ) (held : Option (List ℕ)) (writes : ℕ) (held' : Option (List ℕ)) (writes' : ℕ)
-    → ((e ≡ OutOfMemory → ⊥) → IsFirstFault e text) → StoppedFault stop e held writes held' writes' → StoppedTelling stop text held writes held' writes'
-stops_telling Read e text held writes held' writes' first s = absurd s
-stops_telling Write e text held writes held' writes' first s = (fault_line e, (inr (e, (first s.0, refl)), s.1, s.2))
-stops_telling Shelf e text held writes held' writes' first s = absurd s
-stops_telling Memory e text held writes held' writes' first s = s
-stops_telling TooLong e text held writes held' writes' first s = absurd s
+pub stops_telling : (question : Question) (stop : Stop) (e : ReadError) (text : List ℕ) (held : Option (List ℕ)) (writes : ℕ) (held' : Option (List ℕ)) (writes' : ℕ)
+    → ((e ≡ OutOfMemory → ⊥) → IsFirstFault e text) → StoppedFault stop e held writes held' writes' → StoppedTelling question stop text held writes held' writes'
+stops_telling question Read e text held writes held' writes' first s = absurd s
+stops_telling question Write e text held writes held' writes' first s = (fault_line e, (inr (e, (first s.0, refl)), s.1, s.2))
+stops_telling question Shelf e text held writes held' writes' first s = absurd s
+stops_telling question Memory e text held writes held' writes' first s = s
+stops_telling question TooLong e text held writes held' writes' first s = absurd s
 
 -- the input was taken, and then the answer to it was put, or not wholly
-module _ (text : List ℕ) (left : Option (List ℕ)) (reads : ℕ) (held : Option (List ℕ)) (writes : ℕ) (left' : Option (List ℕ)) (reads' : ℕ) (held' : Option (List ℕ)) (writes' : ℕ)
+module _ (question : Question) (text : List ℕ) (left : Option (List ℕ)) (reads : ℕ) (held : Option (List ℕ)) (writes : ℕ) (left' : Option (List ℕ)) (reads' : ℕ) (held' : Option (List ℕ)) (writes' : ℕ)
     (took : TookAll text (streams_of left reads held writes) (streams_of left' reads' held writes)) where
   took_all : TookAll text (streams_of left reads held writes) (streams_of left' reads' held' writes')
   took_all = record { gave = took.gave; nothing_left = took.nothing_left; fits = took.fits }
 
-  stops : (stop : Stop) → StoppedTelling stop text held writes held' writes' → EndedRead (stop_status stop) (streams_of left reads held writes) (streams_of left' reads' held' writes')
+  stops : (stop : Stop) → StoppedTelling question stop text held writes held' writes' → EndedRead question (stop_status stop) (streams_of left reads held writes) (streams_of left' reads' held' writes')
   stops Read s = absurd s
   stops Write s = ((text, s.0, (took_all, s.1.0, s.1.1)), s.1.2)
   stops Shelf s = absurd s
@@ -37,21 +38,21 @@ module _ (text : List ℕ) (left : Option (List ℕ)) (reads : ℕ) (held : Opti
   stops TooLong s = absurd s
 
   pub reading_ends : (r : Result Bool Stop)
-      → MatchResult r (λ is_dump. Told is_dump text held held') (λ stop. StoppedTelling stop text held writes held' writes')
-      → EndedRead (read_status r) (streams_of left reads held writes) (streams_of left' reads' held' writes')
+      → MatchResult r (λ is_dump. Told question is_dump text held held') (λ stop. StoppedTelling question stop text held writes held' writes')
+      → EndedRead question (read_status r) (streams_of left reads held writes) (streams_of left' reads' held' writes')
   reading_ends (Ok true) told = (text, told.0, (took_all, told.1.0, told.1.1))
   reading_ends (Ok false) told = (text, told.0, (took_all, told.1.0, told.1.1))
   reading_ends (Err stop) s = stops stop s
 
 -- with no fault and an input within the limit, only want of memory stops a reading
-pub reading_completes : (s : Status) (old new : Streams) → EndedRead s old new → HasFewLeft old.left
+pub reading_completes : (question : Question) (s : Status) (old new : Streams) → EndedRead question s old new → HasFewLeft old.left
     → (FaultRose old.read_faults new.read_faults → ⊥) → (FaultRose old.write_faults new.write_faults → ⊥) → EndsTold s
-reading_completes status.Ok old new ended few reads puts = tt
-reading_completes status.Refused old new ended few reads puts = absurd ended
-reading_completes status.Usage old new ended few reads puts = absurd ended
-reading_completes status.ReadFault old new ended few reads puts = absurd (reads ended.0)
-reading_completes status.WriteFault old new ended few reads puts = absurd (puts ended.1)
-reading_completes status.OutOfMemory old new ended few reads puts = tt
-reading_completes status.ShelfFault old new ended few reads puts = absurd ended
-reading_completes status.NotDump old new ended few reads puts = tt
-reading_completes status.TooLong old new ended few reads puts = absurd (few_given old.left new.left ended.0.taken few ended.0.gave ended.0.too_many)
+reading_completes question status.Ok old new ended few reads puts = tt
+reading_completes question status.Refused old new ended few reads puts = absurd ended
+reading_completes question status.Usage old new ended few reads puts = absurd ended
+reading_completes question status.ReadFault old new ended few reads puts = absurd (reads ended.0)
+reading_completes question status.WriteFault old new ended few reads puts = absurd (puts ended.1)
+reading_completes question status.OutOfMemory old new ended few reads puts = tt
+reading_completes question status.ShelfFault old new ended few reads puts = absurd ended
+reading_completes question status.NotDump old new ended few reads puts = tt
+reading_completes question status.TooLong old new ended few reads puts = absurd (few_given old.left new.left ended.0.taken few ended.0.gave ended.0.too_many)

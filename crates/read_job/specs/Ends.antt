@@ -2,6 +2,7 @@
 use Rattle.std.specs.Prelude.{◌≡◌, ◌⊎◌, ℕ, ◌+◌, ◌<◌, ◌≤◌, ◌^◌, List, [], ◌∷◌, Option, None, Some, codes, decimal, length}
 use Rattle.std.specs.List.{concat}
 use Rattle.ah_outside.specs.Outside.{FaultRose, Gave, Gained, GainedPrefix}
+use Rattle.dump_graph.specs.Graph.{graph, parts}
 use Rattle.hprof_list.specs.Listing.{listing}
 use Rattle.hprof_read.specs.declared.read_error.ReadError.{ReadError}
 use Rattle.hprof_read.specs.declared.read_error.ReadError.TheVariants.{Magic, IdSize, CutShort, UnknownTag, PastEnd, BadType, OutOfMemory}
@@ -13,6 +14,9 @@ use Rattle.job_status.specs.declared.status.Status.{Status}
 use Rattle.job_status.specs.declared.status.Status.TheVariants as status
 use Rattle.job_status.specs.Inputs.{NothingLeft}
 use Rattle.model_numbers.specs.Numbers.{input_limit, piece_bytes}
+use Rattle.read_job.specs.declared.question.Question.{Question}
+use Rattle.read_job.specs.declared.question.Question.TheVariants.{Listing, Path}
+use Rattle.root_paths.specs.Answer.{answer}
 
 -- what a reading changes: the bytes that the source has left, where it tells them, its count of faults, the bytes that
 -- the sink has gained, where it tells them, and its count of faults
@@ -39,11 +43,16 @@ pub record TookTooMany (old new : Streams) : Type 0 where
   pub too_many : input_limit < length taken
   pub barely : length taken ≤ input_limit + piece_bytes
 
--- the text is a dump, and this is its listing
-abbrev pub IsListing : List ℕ → List ℕ → Type 0
-IsListing text put =
+-- what is told of the dump of a time and records: its listing, or a path to an object
+abbrev pub told_of : Question → ℕ → List TopRecord → List ℕ
+told_of Listing time records = listing time records
+told_of (Path id) time records = answer (graph (parts records)) id
+
+-- the text is a dump, and this is what is told of it
+abbrev pub IsTold : Question → List ℕ → List ℕ → Type 0
+IsTold question text put =
     (time : ℕ) × (records : List TopRecord)
-    × ((time < 2 ^ 64) × AreRecords records × (text ≡ dump_bytes time records) × (put ≡ listing time records))
+    × ((time < 2 ^ 64) × AreRecords records × (text ≡ dump_bytes time records) × (put ≡ told_of question time records))
 
 -- the line that tells a fault by its number and its offset
 abbrev pub numbered_line : ℕ → ℕ → List ℕ
@@ -72,31 +81,31 @@ fault_line e = line_of (fault_number e)
 abbrev pub TellsFault : List ℕ → List ℕ → Type 0
 TellsFault text put = (e : ReadError) × (IsFirstFault e text × (put ≡ fault_line e))
 
--- the whole input was taken, it is a dump, and its listing was put
-abbrev pub ListedDump : Streams → Streams → Type 0
-ListedDump old new = (text : List ℕ) × (put : List ℕ) × (TookAll text old new × IsListing text put × Gained old.gained put new.gained)
+-- the whole input was taken, it is a dump, and what is told of it was put
+abbrev pub ToldDump : Question → Streams → Streams → Type 0
+ToldDump question old new = (text : List ℕ) × (put : List ℕ) × (TookAll text old new × IsTold question text put × Gained old.gained put new.gained)
 
 -- the whole input was taken, it is no dump, and the line that tells its first fault was put
 abbrev pub ToldFault : Streams → Streams → Type 0
 ToldFault old new = (text : List ℕ) × (put : List ℕ) × (TookAll text old new × TellsFault text put × Gained old.gained put new.gained)
 
 -- the whole input was taken, and some first bytes were put of what is put of it, maybe none and maybe all
-abbrev pub ToldInPart : Streams → Streams → Type 0
-ToldInPart old new =
+abbrev pub ToldInPart : Question → Streams → Streams → Type 0
+ToldInPart question old new =
     (text : List ℕ) × (put : List ℕ)
-    × (TookAll text old new × (IsListing text put ⊎ TellsFault text put) × GainedPrefix old.gained put new.gained)
+    × (TookAll text old new × (IsTold question text put ⊎ TellsFault text put) × GainedPrefix old.gained put new.gained)
 
 -- what a reading leaves, by its status
-abbrev pub EndedRead : Status → Streams → Streams → Type 0
-EndedRead status.Ok old new = ListedDump old new
-EndedRead status.Refused old new = ⊥
-EndedRead status.Usage old new = ⊥
-EndedRead status.ReadFault old new = FaultRose old.read_faults new.read_faults × (new.gained ≡ old.gained)
-EndedRead status.WriteFault old new = ToldInPart old new × FaultRose old.write_faults new.write_faults
-EndedRead status.OutOfMemory old new = new.gained ≡ old.gained
-EndedRead status.ShelfFault old new = ⊥
-EndedRead status.NotDump old new = ToldFault old new
-EndedRead status.TooLong old new = TookTooMany old new × (new.gained ≡ old.gained)
+abbrev pub EndedRead : Question → Status → Streams → Streams → Type 0
+EndedRead question status.Ok old new = ToldDump question old new
+EndedRead question status.Refused old new = ⊥
+EndedRead question status.Usage old new = ⊥
+EndedRead question status.ReadFault old new = FaultRose old.read_faults new.read_faults × (new.gained ≡ old.gained)
+EndedRead question status.WriteFault old new = ToldInPart question old new × FaultRose old.write_faults new.write_faults
+EndedRead question status.OutOfMemory old new = new.gained ≡ old.gained
+EndedRead question status.ShelfFault old new = ⊥
+EndedRead question status.NotDump old new = ToldFault old new
+EndedRead question status.TooLong old new = TookTooMany old new × (new.gained ≡ old.gained)
 
 -- the answers of a reading that was not stopped by a fault or by its input's length
 abbrev pub EndsTold : Status → Type 0

@@ -8,25 +8,34 @@ use Rattle.job_status.specs.declared.status.Status.TheVariants as status
 use Rattle.job_status.specs.declared.stop.Stop.{Stop}
 use Rattle.job_status.specs.declared.stop.Stop.TheVariants.{Read, Write, Shelf, Memory, TooLong}
 use Rattle.job_status.specs.Status.{stop_status}
-use Rattle.read_job.specs.Ends.{IsListing, TellsFault, fault_line}
+use Rattle.read_job.specs.declared.question.Question.{Question}
+use Rattle.read_job.specs.Ends.{IsTold, TellsFault, fault_line}
 
 -- what is put of a text, by whether it is a dump
-abbrev pub IsAnswer : Bool → List ℕ → List ℕ → Type 0
-IsAnswer true text put = IsListing text put
-IsAnswer false text put = TellsFault text put
+abbrev pub IsAnswer : Question → Bool → List ℕ → List ℕ → Type 0
+IsAnswer question true text put = IsTold question text put
+IsAnswer question false text put = TellsFault text put
 
 -- the answer to a text was put
-abbrev pub Told : Bool → List ℕ → Option (List ℕ) → Option (List ℕ) → Type 0
-Told is_dump text held held' = (put : List ℕ) × (IsAnswer is_dump text put × Gained held put held')
+abbrev pub Told : Question → Bool → List ℕ → Option (List ℕ) → Option (List ℕ) → Type 0
+Told question is_dump text held held' = (put : List ℕ) × (IsAnswer question is_dump text put × Gained held put held')
+
+-- why what is asked of a dump wasn't put whole
+abbrev pub StoppedDump : Stop → List ℕ → Option (List ℕ) → ℕ → Option (List ℕ) → ℕ → Type 0
+StoppedDump Read put held writes held' writes' = ⊥
+StoppedDump Write put held writes held' writes' = GainedPrefix held put held' × FaultRose writes writes'
+StoppedDump Shelf put held writes held' writes' = ⊥
+StoppedDump Memory put held writes held' writes' = held' ≡ held
+StoppedDump TooLong put held writes held' writes' = ⊥
 
 -- why the answer to a text wasn't put whole
-abbrev pub StoppedTelling : Stop → List ℕ → Option (List ℕ) → ℕ → Option (List ℕ) → ℕ → Type 0
-StoppedTelling Read text held writes held' writes' = ⊥
-StoppedTelling Write text held writes held' writes' =
-    (put : List ℕ) × ((IsListing text put ⊎ TellsFault text put) × GainedPrefix held put held' × FaultRose writes writes')
-StoppedTelling Shelf text held writes held' writes' = ⊥
-StoppedTelling Memory text held writes held' writes' = held' ≡ held
-StoppedTelling TooLong text held writes held' writes' = ⊥
+abbrev pub StoppedTelling : Question → Stop → List ℕ → Option (List ℕ) → ℕ → Option (List ℕ) → ℕ → Type 0
+StoppedTelling question Read text held writes held' writes' = ⊥
+StoppedTelling question Write text held writes held' writes' =
+    (put : List ℕ) × ((IsTold question text put ⊎ TellsFault text put) × GainedPrefix held put held' × FaultRose writes writes')
+StoppedTelling question Shelf text held writes held' writes' = ⊥
+StoppedTelling question Memory text held writes held' writes' = held' ≡ held
+StoppedTelling question TooLong text held writes held' writes' = ⊥
 
 -- why the line of a fault wasn't put whole
 abbrev pub StoppedFault : Stop → ReadError → Option (List ℕ) → ℕ → Option (List ℕ) → ℕ → Type 0

@@ -5,6 +5,7 @@ ghost use Rattle.job_status.specs.Inputs.{NothingLeft};
 ghost use Rattle.job_status.specs.Status.{stop_status};
 ghost use Rattle.read_job.specs.Ends.{EndedRead, Streams, TookAll, streams_of};
 ghost use Rattle.read_job.specs.Taking.{HasTaken};
+ghost use Rattle.read_job.specs.declared.question.Question.{Question};
 
 use ah_outside::Source;
 use job_status::Stop;
@@ -22,7 +23,7 @@ fn take_piece<S: Source>(source: &mut S, buf: &mut [u8], text: &mut Vec<u8>) -> 
     ensures done { (old : Streams) (held : Option (List ℕ)) (writes : ℕ) → HasTaken text.old.items old (streams_of (S.left source.old) (S.fault_count source.old) held writes) →
         let new = streams_of (S.left source.new) (S.fault_count source.new) held writes in MatchResult result
         (λ more. HasTaken text.new.items old new × (more ≡ false → NothingLeft new.left))
-        (λ stop. EndedRead (stop_status stop) old new) }
+        (λ stop. (question : Question) → EndedRead question (stop_status stop) old new) }
     ensures never_falls { S.fault_count source.old ≤ S.fault_count source.new }
 {
     let Ok(count) = source.take(buf) else {
@@ -42,7 +43,7 @@ pub(crate) fn take_input<S: Source>(alloc: Global, source: &mut S) -> Result<Vec
         let old = streams_of (S.left source.old) (S.fault_count source.old) held writes in
         let new = streams_of (S.left source.new) (S.fault_count source.new) held writes in MatchResult result
         (λ text. TookAll text.items old new)
-        (λ stop. EndedRead (stop_status stop) old new) }
+        (λ stop. (question : Question) → EndedRead question (stop_status stop) old new) }
     ensures never_falls { S.fault_count source.old ≤ S.fault_count source.new }
 {
     let mut text = Vec::new(alloc);

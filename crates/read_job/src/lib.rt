@@ -1,12 +1,14 @@
-//! The reading of a dump: the whole input is taken from a source, and its listing, or the line that tells its first
-//! fault, is put to a sink.
+//! The reading of a dump: the whole input is taken from a source, and what is asked of it, its listing or a path to an
+//! object, or the line that tells its first fault, is put to a sink.
 #![tactic(auto)]
 
 mod examples;
 mod input;
 mod laws;
+mod question;
 mod reading;
 mod told;
 
 pub use laws::one_answer;
-pub use reading::list_input;
+pub use question::Question;
+pub use reading::answer_input;

@@ -5,6 +5,7 @@ ghost use Rattle.job_status.specs.Inputs.{HasFewLeft};
 ghost use Rattle.read_job.specs.Ends.{EndedRead, EndsTold, streams_of};
 ghost use Rattle.read_job.specs.Telling.{read_status};
 
+use crate::Question;
 use crate::input::take_input;
 use crate::told::tell;
 use ah_outside::{Sink, Source};
@@ -25,28 +26,34 @@ fn read_status(ended: Result<bool, Stop>) -> Status
 /// Takes the input, and puts what is to be told of it. Tells whether it is a dump.
 fn take_and_tell<S: Source, W: Sink>(
     alloc: Global,
+    question: Question,
     source: &mut S,
     sink: &mut W,
 ) -> Result<bool, Stop>
     ensures ended { let old = streams_of (S.left source.old) (S.fault_count source.old) (W.gained sink.old) (W.fault_count sink.old) in
         let new = streams_of (S.left source.new) (S.fault_count source.new) (W.gained sink.new) (W.fault_count sink.new) in
-        EndedRead (read_status result) old new }
+        EndedRead question (read_status result) old new }
     ensures source_faults { S.fault_count source.old ≤ S.fault_count source.new }
     ensures sink_faults { W.fault_count sink.old ≤ W.fault_count sink.new }
 {
     let text = take_input(alloc, source)?;
-    tell(alloc, &text, sink)
+    tell(alloc, question, &text, sink)
 }
 
-/// Reads a dump of at most 268,435,456 bytes from the source, at most 4,096 bytes at a time, and puts its listing. Where
-/// the input is no dump, the one line `not a dump: Hk at OFFSET` is put, which tells its first fault by the fault's
-/// number and offset. Nothing is put before the whole input was taken. The input is kept once, and besides it the dump's
-/// records.
-pub fn list_input<S: Source, W: Sink>(alloc: Global, source: &mut S, sink: &mut W) -> Status
+/// Reads a dump of at most 268,435,456 bytes from the source, at most 4,096 bytes at a time, and puts what is asked of it:
+/// its listing, or a shortest path from a root to an object. Where the input is no dump, the one line
+/// `not a dump: Hk at OFFSET` is put, which tells its first fault by the fault's number and offset. Nothing is put before
+/// the whole input was taken. The input is kept once, and besides it the dump's records, and for a path its graph.
+pub fn answer_input<S: Source, W: Sink>(
+    alloc: Global,
+    question: Question,
+    source: &mut S,
+    sink: &mut W,
+) -> Status
     // What it leaves, status by status.
     ensures ended { let old = streams_of (S.left source.old) (S.fault_count source.old) (W.gained sink.old) (W.fault_count sink.old) in
         let new = streams_of (S.left source.new) (S.fault_count source.new) (W.gained sink.new) (W.fault_count sink.new) in
-        EndedRead result old new }
+        EndedRead question result old new }
 
     // Where the source tells an input within the limit, and there is no fault, only want of memory stops it.
     ensures complete { HasFewLeft (S.left source.old) → ¬ FaultRose (S.fault_count source.old) (S.fault_count source.new) →
@@ -56,5 +63,5 @@ pub fn list_input<S: Source, W: Sink>(alloc: Global, source: &mut S, sink: &mut 
     ensures source_faults { S.fault_count source.old ≤ S.fault_count source.new }
     ensures sink_faults { W.fault_count sink.old ≤ W.fault_count sink.new }
 {
-    read_status(take_and_tell(alloc, source, sink))
+    read_status(take_and_tell(alloc, question, source, sink))
 }

@@ -1,15 +1,17 @@
-//! What is put of a text: its listing where it is a dump, and else the line that tells its first fault.
+//! What is put of a text: what is asked of it where it is a dump, and else the line that tells its first fault.
 ghost use Rattle.std.specs.Prelude.{◌≡◌, ◌≢◌, ◌≤◌, MatchResult};
 ghost use Rattle.ah_outside.specs.Outside.{Gained};
 ghost use Rattle.hprof_list.specs.Putting.{Puts};
-ghost use Rattle.read_job.specs.Ends.{fault_line, fault_number, numbered_line};
-ghost use Rattle.read_job.specs.Telling.{StoppedFault, StoppedTelling, Told};
+ghost use Rattle.read_job.specs.Ends.{fault_line, fault_number, numbered_line, told_of};
+ghost use Rattle.read_job.specs.Telling.{StoppedDump, StoppedFault, StoppedTelling, Told};
 
+use crate::Question;
 use ah_outside::{Failed, Sink};
 use hprof_list::{put_pieces, write_listing};
-use hprof_read::{ReadError, read_dump};
+use hprof_read::{Dump, ReadError, read_dump};
 use itoa::Buffer;
 use job_status::Stop;
+use root_paths::{PathError, find_path};
 use std::alloc::Global;
 
 /// Puts the line that tells a fault by its number and its offset.
@@ -61,19 +63,49 @@ fn put_fault<W: Sink>(sink: &mut W, error: ReadError) -> Result<(), Stop>
     }
 }
 
-/// Puts the listing of a text that is a dump, or the line that tells the first fault of another. Tells whether the text
+/// Puts what is asked of a dump.
+fn tell_dump<W: Sink>(
+    alloc: Global,
+    question: Question,
+    dump: &Dump,
+    sink: &mut W,
+) -> Result<(), Stop>
+    ensures told { let d = dump.now in MatchResult result
+        (λ _. Gained (W.gained sink.old) (told_of question d.time d.top) (W.gained sink.new))
+        (λ stop. StoppedDump stop (told_of question d.time d.top) (W.gained sink.old) (W.fault_count sink.old) (W.gained sink.new) (W.fault_count sink.new)) }
+    ensures never_falls { W.fault_count sink.old ≤ W.fault_count sink.new }
+{
+    match question {
+        Question::Listing => match write_listing(dump, sink) {
+            Ok(()) => Ok(()),
+            Err(Failed) => Err(Stop::Write),
+        },
+        Question::Path { id } => match find_path(alloc, dump, id, sink) {
+            Ok(()) => Ok(()),
+            Err(PathError::SinkFault) => Err(Stop::Write),
+            Err(PathError::OutOfMemory) => Err(Stop::Memory),
+        },
+    }
+}
+
+/// Puts what is asked of a text that is a dump, or the line that tells the first fault of another. Tells whether the text
 /// is a dump.
-pub(crate) fn tell<W: Sink>(alloc: Global, text: &[u8], sink: &mut W) -> Result<bool, Stop>
+pub(crate) fn tell<W: Sink>(
+    alloc: Global,
+    question: Question,
+    text: &[u8],
+    sink: &mut W,
+) -> Result<bool, Stop>
     ensures told { MatchResult result
-        (λ is_dump. Told is_dump text.now (W.gained sink.old) (W.gained sink.new))
-        (λ stop. StoppedTelling stop text.now (W.gained sink.old) (W.fault_count sink.old) (W.gained sink.new) (W.fault_count sink.new)) }
+        (λ is_dump. Told question is_dump text.now (W.gained sink.old) (W.gained sink.new))
+        (λ stop. StoppedTelling question stop text.now (W.gained sink.old) (W.fault_count sink.old) (W.gained sink.new) (W.fault_count sink.new)) }
     ensures never_falls { W.fault_count sink.old ≤ W.fault_count sink.new }
 {
     match read_dump(alloc, text) {
-        Ok(dump) => match write_listing(&dump, sink) {
-            Ok(()) => Ok(true),
-            Err(Failed) => Err(Stop::Write),
-        },
+        Ok(dump) => {
+            tell_dump(alloc, question, &dump, sink)?;
+            Ok(true)
+        }
         Err(error) => {
             put_fault(sink, error)?;
             Ok(false)

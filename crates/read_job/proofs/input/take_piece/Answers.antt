@@ -12,4 +12,4 @@ returns-then-taken-len-clause-done g c = λ old held writes h.
     let mid : Streams = streams_of (left c.args.source.now) (reads c.args.source.now) held writes in
     let new : Streams = streams_of (left c.take.new.self) (reads c.take.new.self) held writes in
     let short : length taken ≤ piece_bytes = omega (arith, c.requires.piece, c.take.auto.buf, length-take c.in-Ok.count c.take.new.buf) in
-    takes_too_many c.args.text.now.items taken old mid new h c.in-Ok.ensures.gave refl c.requires.fits (omega (arith, c.if-taken-len.true, c.requires.fits)) short
+    λ question. takes_too_many c.args.text.now.items taken old mid new h c.in-Ok.ensures.gave refl c.requires.fits (omega (arith, c.if-taken-len.true, c.requires.fits)) short

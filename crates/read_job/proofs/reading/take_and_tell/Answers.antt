@@ -12,7 +12,7 @@ returns-clause-ended g c =
     let sink = c.args.sink.now in
     let from = c.args.source.now in
     let to = c.take_input.new.source in
-    reading_ends c.deref.result.now (left from) (reads from) (told sink) (puts sink) (left to) (reads to) (told c.tell.new.sink) (puts c.tell.new.sink)
+    reading_ends c.args.question c.deref.result.now (left from) (reads from) (told sink) (puts sink) (left to) (reads to) (told c.tell.new.sink) (puts c.tell.new.sink)
     (subst (λ (text : List ℕ). TookAll text (streams_of (left from) (reads from) (told sink) (puts sink)) (streams_of (left to) (reads to) (told sink) (puts sink)))
     (sym c.deref.ensures.value) (c.in_ok-text.ensures.done (told sink) (puts sink)))
     c.tell.result c.tell.ensures.told

@@ -1,0 +1,10 @@
+pub mod Positions
+pub mod Firsts
+pub mod Numberings
+pub mod Climbs
+pub mod ClimbTables
+pub mod Values
+pub mod Layouts
+pub mod ReadAll
+pub mod Nodes
+pub mod Marks

@@ -1,0 +1,219 @@
+//! The graph: nodes, roots and edges.
+ghost use Rattle.std.specs.Prelude.{◌≡◌, ℕ, ◌<◌, ◌||◌, ◌++◌, false, map, length, get_or, nat_eq, position, option_to_list, IfOk, OnOk, zip};
+ghost use Rattle.std.specs.List.{list_any};
+ghost use Rattle.dump_graph.specs.Firsts.{IsApart};
+ghost use Rattle.dump_graph.specs.Graph.{id_of, stands_for_node, nodes, node_ids, roots_it};
+ghost use Rattle.dump_graph.specs.Tables.{made_node, numbers_of, root_id};
+
+use crate::GraphNode;
+use crate::classes::Classes;
+use crate::numbers::Numbers;
+use crate::parts::parts_of;
+use crate::references::references;
+use hprof_read::Dump;
+use hprof_records::SubRecord;
+use std::alloc::{AllocError, Global};
+use std::marker::Model;
+
+/// The tag of an object that was found to be unreachable: it is no root.
+const UNREACHABLE: u8 = 0x90;
+
+/// The identifier of a part that stands for a node, a class or an object, or that of a root.
+fn id_of(part: &SubRecord) -> u32
+    ensures { result ≡ id_of part.now }
+{
+    match part {
+        SubRecord::Root { id, .. }
+        | SubRecord::ClassDump { id, .. }
+        | SubRecord::Instance { id, .. }
+        | SubRecord::ObjectArray { id, .. }
+        | SubRecord::PrimitiveArray { id, .. }
+        | SubRecord::NoData { id, .. } => *id,
+        SubRecord::HeapInfo { .. } => 0,
+    }
+}
+
+/// Whether a part stands for a node.
+fn stands_for_node(part: &SubRecord) -> bool
+    ensures { result ≡ stands_for_node part.now }
+{
+    match part {
+        SubRecord::Root { .. } | SubRecord::HeapInfo { .. } => false,
+        _ => true,
+    }
+}
+
+/// The identifier that a part tells to be a root.
+fn root_id(part: &SubRecord) -> Option<u32>
+    ensures { result ≡ root_id part.now }
+{
+    match part {
+        SubRecord::Root { tag, id, .. } if *tag != UNREACHABLE => Some(*id),
+        _ => None,
+    }
+}
+
+/// Numbers the nodes, in the order of the parts. Gives the numbers of their identifiers, and the first part of each.
+fn number_nodes<'a>(
+    alloc: Global,
+    parts: &[&'a SubRecord],
+) -> Result<(Numbers, Vec<&'a SubRecord>), AllocError>
+    ensures firsts { IfOk result (λ r. map (λ p. p.now) r.1.items ≡ nodes (map (λ p. p.now) parts.now)) }
+    ensures numbers { IfOk result (λ r. r.0 ≡ node_ids (map (λ p. p.now) parts.now)) }
+    ensures apart { IfOk result (λ r. IsApart r.0) }
+{
+    let mut numbers = Numbers::new(alloc);
+    let mut firsts = Vec::new(alloc);
+    for part in parts {
+        if stands_for_node(part) {
+            if numbers.add(id_of(part))? {
+                firsts.push(*part)?;
+            }
+        }
+    }
+    Ok((numbers, firsts))
+}
+
+/// Marks the root that a part tells.
+fn mark_root(part: &SubRecord, numbers: &Numbers, roots: &mut [bool])
+    requires { length roots.old ≡ length numbers.now }
+    ensures length { length roots.new ≡ length roots.old }
+    ensures marked { (k : ℕ) → IsApart numbers.now → k < length numbers.now → get_or roots.new k false ≡ (get_or roots.old k false || roots_it (get_or numbers.now k 0) part.now) }
+{
+    if let Some(id) = root_id(part) {
+        if let Some(number) = numbers.number_of(id) {
+            roots[number] = true;
+        }
+    }
+}
+
+/// Which nodes are roots, by their numbers.
+fn mark_roots(
+    alloc: Global,
+    parts: &[&SubRecord],
+    numbers: &Numbers,
+    count: usize,
+) -> Result<Vec<bool>, AllocError>
+    requires { count ≡ length numbers.now }
+    ensures length { IfOk result (λ r. length r.items ≡ count) }
+    ensures roots { IfOk result (λ r. (k : ℕ) → IsApart numbers.now → k < count → get_or r.items k false ≡ list_any (roots_it (get_or numbers.now k 0)) (map (λ p. p.now) parts.now)) }
+{
+    let mut roots = vec![in alloc; false; count]?;
+    for part in parts {
+        mark_root(part, numbers, &mut roots);
+    }
+    Ok(roots)
+}
+
+/// Puts the number of an identifier behind others, if a node has it.
+fn add_number(numbers: &Numbers, id: u32, found: &mut Vec<usize>) -> Result<(), AllocError>
+    ensures { OnOk result (found.new.items ≡ found.old.items ++ option_to_list (position (nat_eq id) numbers.now)) }
+{
+    if let Some(number) = numbers.number_of(id) {
+        found.push(number)?;
+    }
+    Ok(())
+}
+
+/// The numbers of the nodes among identifiers.
+fn numbers_of(alloc: Global, numbers: &Numbers, ids: &[u32]) -> Result<Vec<usize>, AllocError>
+    ensures { IfOk result (λ r. r.items ≡ numbers_of numbers.now ids.now) }
+{
+    let mut found = Vec::new(alloc);
+    for id in ids {
+        add_number(numbers, *id, &mut found)?;
+    }
+    Ok(found)
+}
+
+/// A node, by its first part.
+fn node_of(
+    alloc: Global,
+    classes: &Classes,
+    numbers: &Numbers,
+    is_root: bool,
+    first: &SubRecord,
+) -> Result<GraphNode, AllocError>
+    ensures { IfOk result (λ n. n ≡ made_node classes.now numbers.now is_root first.now) }
+{
+    let refers = references(alloc, classes, first)?;
+    let targets = numbers_of(alloc, numbers, &refers)?;
+    Ok(GraphNode {
+        id: id_of(first),
+        is_root,
+        targets,
+    })
+}
+
+/// The nodes, by their first parts.
+fn nodes_of(
+    alloc: Global,
+    classes: &Classes,
+    numbers: &Numbers,
+    roots: &[bool],
+    firsts: &[&SubRecord],
+) -> Result<Vec<GraphNode>, AllocError>
+    requires { length roots.now ≡ length firsts.now }
+    ensures { IfOk result (λ r. r.items ≡ map (λ x. made_node classes.now numbers.now x.0 x.1) (zip roots.now (map (λ p. p.now) firsts.now))) }
+{
+    let mut nodes = Vec::with_capacity(alloc, firsts.len())?;
+    for i in 0..firsts.len() {
+        nodes.push(node_of(alloc, classes, numbers, roots[i], firsts[i])?)?;
+    }
+    Ok(nodes)
+}
+
+/// The first place of a node with an identifier.
+fn place_of(nodes: &[GraphNode], id: u32) -> Option<usize>
+    ensures { result ≡ position (λ x. nat_eq x.id id) nodes.now }
+{
+    nodes.iter().position(|node| node.id() == id)
+}
+
+/// The graph of a dump: its nodes in order, each with its edges.
+#[derive(Drop)]
+pub struct DumpGraph {
+    nodes: Vec<GraphNode>,
+}
+
+impl Model for DumpGraph {
+    ghost use Rattle.std.specs.Prelude.{List};
+    ghost use Rattle.dump_graph.specs.Graph.{Node};
+
+    ghost Value = { List Node };
+
+    ghost view = { λ g. g.nodes.items };
+}
+
+impl DumpGraph {
+    ghost use Rattle.std.specs.Prelude.{◌≡◌, IfOk};
+    ghost use Rattle.dump_graph.specs.Graph.{graph, parts, number_of, LeadsWithin};
+
+    /// The graph of a dump. It takes time for each part of the dump once, and for each round of doubled steps up from the
+    /// classes.
+    pub fn of(alloc: Global, dump: &Dump) -> Result<DumpGraph, AllocError>
+        ensures graph { IfOk result (λ g. g ≡ graph (parts dump.now.top)) }
+        ensures within { IfOk result LeadsWithin }
+    {
+        let parts = parts_of(alloc, dump.top.as_slice())?;
+        let classes = Classes::of(alloc, &parts)?;
+        let (numbers, firsts) = number_nodes(alloc, &parts)?;
+        let roots = mark_roots(alloc, &parts, &numbers, firsts.len())?;
+        let nodes = nodes_of(alloc, &classes, &numbers, &roots, &firsts)?;
+        Ok(DumpGraph { nodes })
+    }
+
+    /// The nodes, in order: a node's number is its place here.
+    pub fn nodes(&self) -> &[GraphNode]
+        ensures { result.now ≡ self.now }
+    {
+        &self.nodes
+    }
+
+    /// The number of the node with an identifier. `None` exactly where no node has it.
+    pub fn number_of(&self, id: u32) -> Option<usize>
+        ensures { result ≡ number_of self.now id }
+    {
+        place_of(&self.nodes, id)
+    }
+}

@@ -1,0 +1,13 @@
+//! The graph of a dump: its classes and objects in order, which of them are roots, and the edges between them.
+#![tactic(auto)]
+
+mod classes;
+mod climb;
+mod graph;
+mod node;
+mod numbers;
+mod parts;
+mod references;
+
+pub use graph::DumpGraph;
+pub use node::GraphNode;

@@ -1,0 +1,7 @@
+//! Tests of the crates that find paths in dumps.
+#![tactic(auto)]
+
+#[cfg(test)]
+mod made;
+#[cfg(test)]
+mod tests;

@@ -1,0 +1,5 @@
+use Rattle.hprof_list.proofs.Putting.{said}
+use Rattle.root_paths.proofs.put.put_no_node.Goals as goal
+
+pub returns : goal.returns
+returns g c = said _ _ _ _ _ _ _ c.put_pieces.ensures (simp (c.id_of.ensures))

@@ -1,0 +1,5 @@
+pub mod Paths
+pub mod Levels
+pub mod Answer
+pub mod Putting
+pub mod Shortest
