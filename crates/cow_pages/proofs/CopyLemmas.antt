@@ -1,6 +1,6 @@
 -- A page that gets a frame of its own: a copy of the one that it shares, or zeros where it had none.
 use Rattle.std.proofs.Common.{◌≡◌, ◌≢◌, ◌⊎◌, ℕ, ◌+◌, ◌-◌, ◌<◌, ◌≤◌, ◌/◌, ◌%◌, Bool, true, false, List, [], length, get_or, set, Some, None, Option, is_some, IsTrue, ◌&&◌, refl, sym, ap, subst, ◌∙◌, inl, inr, arith}
-use Rattle.std.specs.Prelude.{All, option_map, replicate}
+use Rattle.std.specs.Prelude.{option_map}
 use Rattle.std.proofs.lemmas.List.{length-set, get_or-set_same, get_or-set_other}
 use Rattle.std.proofs.lemmas.Bool.{cases_eq}
 use Rattle.sharers.specs.Shares.{Shares, AreTallied, count_of}
@@ -11,10 +11,10 @@ use Rattle.cow_pages.specs.declared.store.Store.{Store}
 use Rattle.cow_pages.specs.Address.{is_in, leaf_index}
 use Rattle.cow_pages.specs.Change.{ChangesPage, KeepsOrCopies, MapsZeros, OwnsLeaf, TakesFrame, TakesOne, TakesOnCopy}
 use Rattle.cow_pages.specs.Frame.{frame_bytes, frame_of}
-use Rattle.cow_pages.specs.Grid.{cell, one_held}
-use Rattle.cow_pages.specs.Memory.{Memory, is_live, page_at, IsShared}
+use Rattle.cow_pages.specs.Grid.{one_held}
+use Rattle.cow_pages.specs.Memory.{Memory, is_live, IsShared}
 use Rattle.cow_pages.specs.Tables.{mapped_one, written_one}
-use Rattle.cow_pages.specs.Store.{Row, frame_key, leaf_grid, table_grid, bytes_of, frame_sharers, leaf_sharers, pages_kept, place_at, entry_at, page_of_entry, shown, mapped_kept, written_kept, CountsSlots, IsKept, HasRoom, IsStore, IsReady}
+use Rattle.cow_pages.specs.Store.{frame_key, leaf_grid, table_grid, bytes_of, frame_sharers, pages_kept, entry_at, page_of_entry, shown, mapped_kept, written_kept, CountsSlots, HasRoom, IsStore, IsReady}
 use Rattle.cow_pages.specs.Steps.{SetsOwn, SetsBytes, Recounts, Beside, Ready, AddsRoom, KeepsRoomOf, Maps, OwnsEntry}
 use Rattle.cow_pages.proofs.CodeLemmas.{field-here, field-other}
 use Rattle.cow_pages.proofs.GridLemmas.{one-yes, one-no}
@@ -22,11 +22,10 @@ use Rattle.cow_pages.proofs.RoomLemmas.{not_shared}
 use Rattle.cow_pages.proofs.CountLemmas.{count-within}
 use Rattle.cow_pages.proofs.SharedLemmas.{frame_held, lone}
 use Rattle.cow_pages.proofs.ShownLemmas.{page_at-shown, one_sharer, is_free}
-use Rattle.cow_pages.proofs.OpLemmas.{set_entries}
 use Rattle.cow_pages.proofs.SeenLemmas.{Owned, owned_copied, fresh_entry, lone_free, page_as, ChangesPage-set, ready_pages, live-kept, changes-back, free-back, SamePages, shared-back}
 use Rattle.cow_pages.proofs.SoundLemmas.{entry_within}
 use Rattle.cow_pages.proofs.EntryLemmas.{HasRoom-bytes, set_store}
-use Rattle.cow_pages.proofs.SlotLemmas.{slot_is, sets_own, more_sharers, shared_flag, entry_seen, reserved_pages, owns_earlier, owns_later, TookOne, took_frame, took_one}
+use Rattle.cow_pages.proofs.SlotLemmas.{slot_is, sets_own, more_sharers, entry_seen, reserved_pages, owns_earlier, owns_later, TookOne, took_frame, took_one}
 
 -- the steps of giving an entry a copy of its frame
 pub record CopyPage (s m new : Store) (t p l f : ℕ) (e : Entry) : Type 0 where

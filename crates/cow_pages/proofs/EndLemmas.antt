@@ -1,6 +1,6 @@
 -- A table that ends, with what else holds of its store.
-use Rattle.std.proofs.Common.{◌≡◌, ◌≢◌, ◌⊎◌, ℕ, ◌+◌, ◌-◌, ◌<◌, ◌≤◌, ◌/◌, ◌%◌, false, cond, true≢false, List, [], length, map, get_or, set, Some, None, Option, is_some, IsTrue, refl, sym, ap, subst, ◌∙◌, inl, inr, arith}
-use Rattle.std.specs.Prelude.{All, replicate, min}
+use Rattle.std.proofs.Common.{◌≡◌, ◌≢◌, ◌⊎◌, ℕ, ◌+◌, ◌-◌, ◌<◌, ◌≤◌, false, cond, true≢false, List, [], length, map, get_or, set, Some, None, Option, is_some, IsTrue, refl, sym, ap, subst, ◌∙◌, inl, inr, arith}
+use Rattle.std.specs.Prelude.{All, replicate}
 use Rattle.std.proofs.lemmas.List.{length-map, length-set, length-replicate, map-set, get_or-set_same, get_or-set_other, get_or_past}
 use Rattle.std.proofs.lemmas.Bool.{cases_eq, cases_lt}
 use Rattle.std.proofs.lemmas.Option.{none-some}
@@ -15,19 +15,19 @@ use Rattle.cow_pages.specs.Change.{ChangesTable, FreesFrames, OtherLeaves}
 use Rattle.cow_pages.specs.Leaf.{no_leaf, present}
 use Rattle.cow_pages.specs.Counts.{count_in}
 use Rattle.cow_pages.specs.Tables.{mapped_from, written_from}
-use Rattle.cow_pages.specs.Grid.{cell, held, one_held, all_held}
-use Rattle.cow_pages.specs.Store.{Row, row_of, frame_key, leaf_key, leaf_grid, table_grid, bytes_of, frame_sharers, leaf_sharers, pages_kept, place_at, flat, mapped_counts, written_counts, shown, CountsSlots, IsFilled, IsCounted, IsKept, HasRoom, IsStore}
-use Rattle.cow_pages.specs.Steps.{KeepsCounts, KeepsLeaves, SetsPlace, ClearsLeaf, LeavesPlace, Dropping, EmptiesLeaf, Ending, Ends}
+use Rattle.cow_pages.specs.Grid.{cell, held, one_held}
+use Rattle.cow_pages.specs.Store.{Row, row_of, frame_key, leaf_key, leaf_grid, table_grid, bytes_of, frame_sharers, leaf_sharers, pages_kept, place_at, flat, mapped_counts, written_counts, shown, CountsSlots, IsCounted, IsKept, HasRoom, IsStore}
+use Rattle.cow_pages.specs.Steps.{KeepsCounts, SetsPlace, ClearsLeaf, LeavesPlace, Dropping, EmptiesLeaf, Ending, Ends}
 use Rattle.cow_pages.proofs.GridLemmas.{all-set, cell-row, cell-column, held-empty, one-yes, one-no}
 use Rattle.cow_pages.proofs.CountLemmas.{count-here, count-other}
-use Rattle.cow_pages.proofs.CodeLemmas.{field-here, field-other, live_within, slots-set}
-use Rattle.cow_pages.proofs.SharedLemmas.{leaf_held, leaf_within, leaf_length}
+use Rattle.cow_pages.proofs.CodeLemmas.{field-other, live_within, slots-set}
+use Rattle.cow_pages.proofs.SharedLemmas.{leaf_held, leaf_within}
 use Rattle.cow_pages.proofs.ShownLemmas.{get_or-none}
 use Rattle.cow_pages.proofs.StepLemmas.{leaf-here, leaf-other, only_place, this_or_other}
 use Rattle.cow_pages.proofs.SeenLemmas.{live-shown}
 use Rattle.cow_pages.proofs.SoundLemmas.{leaf_there, leaves_counted}
 use Rattle.cow_pages.proofs.StoreLemmas.{row-length, IsCounted-same, HasRoom-tables}
-use Rattle.cow_pages.proofs.DropLemmas.{dropping_none, dropping_skip, dropping_own, dropping_shared, ends_entries, Dropped, drop_shown}
+use Rattle.cow_pages.proofs.DropLemmas.{dropping_none, dropping_skip, dropping_own, dropping_shared, ends_entries, drop_shown}
 use Rattle.cow_pages.proofs.WindowLemmas.{count-none}
 use Rattle.cow_pages.proofs.JoinLemmas.{present-none}
 

@@ -1,19 +1,18 @@
 -- A store after one entry was put into a leaf of a table's own, or taken from it.
 use Rattle.std.proofs.Common.{◌≡◌, ◌≢◌, ◌⊎◌, ℕ, ◌+◌, ◌*◌, ◌-◌, ◌<◌, ◌≤◌, ◌/◌, ◌%◌, ◌^◌, List, [], length, get_or, set, Some, None, Option, is_some, IsTrue, refl, sym, ap, subst, ◌∙◌, inl, inr, arith}
-use Rattle.std.specs.Prelude.{All, replicate}
-use Rattle.std.proofs.lemmas.List.{get_or-set_same, get_or-set_other, length-set, length-map}
+use Rattle.std.specs.Prelude.{All}
+use Rattle.std.proofs.lemmas.List.{get_or-set_same}
 use Rattle.std.proofs.lemmas.Bool.{cases_eq}
 use Rattle.std.proofs.lemmas.Nat.{div-add-mod', mod_below}
 use Rattle.sharers.specs.Shares.{Shares, AreTallied, count_of}
-use Rattle.cow_pages.specs.declared.address.Window.{Window}
 use Rattle.cow_pages.specs.declared.leaf.Entry.{Entry}
 use Rattle.cow_pages.specs.declared.table.Table.{Table}
 use Rattle.cow_pages.specs.declared.store.Store.{Store}
 use Rattle.cow_pages.specs.Address.{is_in_window}
 use Rattle.cow_pages.specs.Counts.{count_in}
-use Rattle.cow_pages.specs.Leaf.{present, one_mapped, one_written}
+use Rattle.cow_pages.specs.Leaf.{one_mapped, one_written}
 use Rattle.cow_pages.specs.Tables.{window_of, mapped_one, written_one, mapped_from, written_from}
-use Rattle.cow_pages.specs.Store.{Row, leaf_grid, table_grid, table_entries, bytes_of, frame_sharers, leaf_sharers, pages_kept, place_at, entry_at, mapped_counts, written_counts, mapped_kept, written_kept, CountsSlots, FilledBeside, IsFilled, IsCounted, IsKept, HasRoom, IsStore, IsReady}
+use Rattle.cow_pages.specs.Store.{Row, leaf_grid, table_grid, table_entries, bytes_of, leaf_sharers, pages_kept, place_at, entry_at, mapped_counts, written_counts, CountsSlots, FilledBeside, IsFilled, IsCounted, IsKept, HasRoom, IsStore, IsReady}
 use Rattle.cow_pages.specs.Grid.{cell}
 use Rattle.cow_pages.specs.Steps.{SetsOwn, Lone, SetsEntry, SetsBytes, Recounts, IsCountedAt}
 use Rattle.cow_pages.proofs.LeafLemmas.{mapped-set, written-set, mapped_there, written_there, mapped-le, written-le, present-there}

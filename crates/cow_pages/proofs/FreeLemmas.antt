@@ -1,5 +1,5 @@
 -- A page that is released: its entry goes, its frame is free, and so is its leaf where no page is left in it.
-use Rattle.std.proofs.Common.{◌≡◌, ◌≢◌, ◌⊎◌, ℕ, ◌+◌, ◌-◌, ◌<◌, ◌≤◌, ◌/◌, ◌%◌, List, [], length, get_or, set, Some, None, Option, is_some, IsTrue, refl, sym, ap, subst, ◌∙◌, inl, inr, arith}
+use Rattle.std.proofs.Common.{◌≡◌, ◌≢◌, ℕ, ◌+◌, ◌-◌, ◌<◌, ◌/◌, ◌%◌, List, [], length, get_or, set, Some, None, Option, sym, ap, subst, ◌∙◌, inl, inr, arith}
 use Rattle.std.specs.Prelude.{option_map}
 use Rattle.std.proofs.lemmas.List.{length-set}
 use Rattle.std.proofs.lemmas.Bool.{cases_eq}
@@ -10,13 +10,13 @@ use Rattle.cow_pages.specs.declared.store.Store.{Store}
 use Rattle.cow_pages.specs.Address.{leaf_index}
 use Rattle.cow_pages.specs.Change.{ChangesPage, FreesFrames, LeavesLeaf}
 use Rattle.cow_pages.specs.Grid.{cell, one_held}
-use Rattle.cow_pages.specs.Memory.{page_at, used_frames, used_leaves, distinct_count, leaves_of}
+use Rattle.cow_pages.specs.Memory.{page_at, used_frames, distinct_count, leaves_of}
 use Rattle.cow_pages.specs.Store.{Row, frame_key, leaf_key, leaf_grid, table_grid, bytes_of, frame_sharers, leaf_sharers, pages_kept, place_at, entry_in, entry_at, page_of_entry, shown, CountsSlots, IsKept, HasRoom, IsStore, IsReady}
 use Rattle.cow_pages.specs.Steps.{SetsPlace, SetsOwn, SameEntries, Recounts, LeavesPlace, Unmaps, KeepsCounts}
 use Rattle.cow_pages.proofs.LeafLemmas.{present-zero}
 use Rattle.cow_pages.proofs.GridLemmas.{one-yes, one-no, cell-row, cell-column}
 use Rattle.cow_pages.proofs.CountLemmas.{count-here, count-other, count-within}
-use Rattle.cow_pages.proofs.SharedLemmas.{leaf_held, leaf_within, frame_held}
+use Rattle.cow_pages.proofs.SharedLemmas.{leaf_within}
 use Rattle.cow_pages.proofs.ShownLemmas.{page_at-shown}
 use Rattle.cow_pages.proofs.StepLemmas.{leaf-here, leaf-other, only_place, this_or_other}
 use Rattle.cow_pages.proofs.OpLemmas.{set_entries, leave_entries, leave_kept}

@@ -1,7 +1,7 @@
 -- A store to which free frames and leaves joined, or for which memory alone was taken.
 use Rattle.std.proofs.Common.{◌≡◌, ℕ, zero, suc, ◌+◌, ◌<◌, ◌/◌, ◌%◌, ◌++◌, List, [], ◌∷◌, length, map, get_or, Some, None, Option, refl, sym, ap, subst, ◌∙◌, arith}
 use Rattle.std.specs.Prelude.{All, replicate, min}
-use Rattle.std.proofs.lemmas.List.{length-append, length-replicate, length-map, get_or-replicate, get_or_append_left, append-nil}
+use Rattle.std.proofs.lemmas.List.{length-append, length-replicate, length-map, get_or-replicate, append-nil}
 use Rattle.sharers.specs.Shares.{Shares, AreTallied, count_of}
 use Rattle.cow_pages.specs.declared.frame.Frame.{Frame}
 use Rattle.cow_pages.specs.declared.leaf.Entry.{Entry}
@@ -11,7 +11,7 @@ use Rattle.cow_pages.specs.declared.store.Store.{Store}
 use Rattle.cow_pages.specs.Memory.{Memory, Table as Pages}
 use Rattle.cow_pages.specs.Frame.{zero_frame, frame_bytes}
 use Rattle.cow_pages.specs.Leaf.{no_leaf, present}
-use Rattle.cow_pages.specs.Grid.{cell, held, all_held}
+use Rattle.cow_pages.specs.Grid.{cell, all_held}
 use Rattle.cow_pages.specs.Store.{Row, row_of, frame_key, leaf_key, leaf_grid, table_grid, bytes_of, frame_sharers, leaf_sharers, pages_kept, place_at, entry_in, entry_at, flat, page_of_entry, pages_from, shown_table, shown, CountsSlots, IsKept, HasRoom, IsStore}
 use Rattle.cow_pages.specs.Steps.{SameEntries, AddsRoom}
 use Rattle.cow_pages.proofs.GridLemmas.{held-empty}

@@ -1,9 +1,9 @@
 -- What a read, or a look at a table, finds.
-use Rattle.std.proofs.Common.{◌≡◌, ◌≢◌, ℕ, zero, suc, ◌+◌, ◌<◌, ◌≤◌, ◌/◌, ◌%◌, ◌&&◌, true, false, cond, List, [], ◌∷◌, length, get_or, map, Some, None, Option, is_some, IsTrue, count_by, refl, sym, ap, subst, ◌∙◌, inl, inr, arith, add-zero, true≢false}
+use Rattle.std.proofs.Common.{◌≡◌, ℕ, zero, suc, ◌+◌, ◌<◌, ◌%◌, ◌&&◌, cond, List, [], ◌∷◌, length, get_or, map, Some, None, Option, is_some, IsTrue, count_by, refl, sym, ap, subst, ◌∙◌, inl, inr, arith, add-zero, true≢false}
 use Rattle.std.specs.Prelude.{option_map, slice_index}
 use Rattle.std.proofs.lemmas.List.{get_or-map, get_or_past}
 use Rattle.std.proofs.lemmas.Bool.{cases_lt}
-use Rattle.std.proofs.lemmas.Option.{none-some, same_Some}
+use Rattle.std.proofs.lemmas.Option.{none-some}
 use Rattle.cow_pages.specs.declared.address.Window.{Window}
 use Rattle.cow_pages.specs.declared.frame.Frame.{Frame}
 use Rattle.cow_pages.specs.declared.leaf.Entry.{Entry}
@@ -14,12 +14,12 @@ use Rattle.cow_pages.specs.Memory.{Page, page_at, frame_at, is_mapped, is_live, 
 use Rattle.cow_pages.specs.View.{byte_at, byte_in, bytes_at, view_of}
 use Rattle.cow_pages.specs.Frame.{frame_bytes}
 use Rattle.cow_pages.specs.Tables.{mapped_from, written_from}
-use Rattle.cow_pages.specs.Store.{Row, row_of, bytes_of, page_of_entry, pages_from, shown, entry_at, place_at, table_grid, table_entries, mapped_kept, written_kept, IsKept, HasRoom, IsStore}
+use Rattle.cow_pages.specs.Store.{Row, row_of, bytes_of, page_of_entry, pages_from, shown, entry_at, place_at, table_entries, mapped_kept, written_kept, IsStore}
 use Rattle.cow_pages.proofs.HolderLemmas.{count-step}
 use Rattle.cow_pages.proofs.OpLemmas.{kept_reads}
 use Rattle.cow_pages.proofs.ShownLemmas.{page_at-shown, framed, table_of-shown}
 use Rattle.cow_pages.proofs.SeenLemmas.{live-shown}
-use Rattle.cow_pages.proofs.SoundLemmas.{Behind, behind, entry_within}
+use Rattle.cow_pages.proofs.SoundLemmas.{behind, entry_within}
 
 -- a store whose reads alone differ
 pub IsStore-reads : (s : Store) (n : ℕ) → IsStore s → IsStore (record s { reads = n })

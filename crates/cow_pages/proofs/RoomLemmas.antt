@@ -1,5 +1,5 @@
 -- What holds after either outcome of a call, and what a reserve leaves.
-use Rattle.std.proofs.Common.{◌≡◌, ℕ, ◌+◌, List, Option, refl, sym, ap, ◌∙◌, arith}
+use Rattle.std.proofs.Common.{◌≡◌, ℕ, sym, ap, ◌∙◌}
 use Rattle.std.specs.Prelude.{Result, Ok, Err, OnErr, OnOk}
 use Rattle.cow_pages.specs.Memory.{Memory, HasOneSharer, IsShared}
 

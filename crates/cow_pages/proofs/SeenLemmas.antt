@@ -9,7 +9,7 @@ use Rattle.cow_pages.specs.declared.store.Store.{Store}
 use Rattle.cow_pages.specs.declared.table.Table.{Table}
 use Rattle.cow_pages.specs.Grid.{cell, one_held}
 use Rattle.cow_pages.specs.Store.{Row, row_of, leaf_grid, table_grid, place_at, entry_in, entry_at, page_of_entry, shown_table, shown, bytes_of, leaf_key, frame_sharers, leaf_sharers, IsKept}
-use Rattle.cow_pages.specs.Steps.{Lone, Settled, SetsEntry, DropsIndex, SameEntries, ForksEntries, Forks, CopiesLeaf, TakesLeaf, SetsOwn, Beside, SameBytes, SetsBytes, Ready}
+use Rattle.cow_pages.specs.Steps.{Lone, Settled, SetsEntry, Forks, CopiesLeaf, TakesLeaf, SetsOwn, Beside, SameBytes, SetsBytes, Ready}
 use Rattle.cow_pages.proofs.GridLemmas.{one-no, one-yes}
 use Rattle.cow_pages.proofs.SharedLemmas.{lone, frame_held}
 use Rattle.cow_pages.proofs.ShownLemmas.{page_at-shown, frame-shown, one_sharer, one_or_more, is_free}

@@ -1,5 +1,5 @@
 -- A table that loses its flags, one leaf after the other.
-use Rattle.std.proofs.Common.{◌≡◌, ◌≢◌, ◌⊎◌, ℕ, suc, ◌+◌, ◌<◌, ◌≤◌, ◌/◌, ◌%◌, Bool, true, false, true≢false, List, [], ◌∷◌, length, map, get_or, set, Some, None, Option, is_some, IsTrue, refl, sym, ap, subst, ◌∙◌, inl, inr, arith}
+use Rattle.std.proofs.Common.{◌≡◌, ◌≢◌, ◌⊎◌, ℕ, ◌+◌, ◌<◌, ◌/◌, ◌%◌, Bool, true, false, true≢false, List, [], ◌∷◌, length, map, get_or, set, Some, None, Option, is_some, IsTrue, refl, sym, ap, subst, ◌∙◌, inl, inr, arith}
 use Rattle.std.specs.Prelude.{option_map}
 use Rattle.std.proofs.lemmas.List.{length-map, length-set, get_or-set_same, get_or-set_other, get_or_past}
 use Rattle.std.proofs.lemmas.Bool.{cases_eq, cases_lt}
@@ -14,11 +14,11 @@ use Rattle.cow_pages.specs.Change.{ChangesTable, KeepsRoom, SameLeaves, settled}
 use Rattle.cow_pages.specs.Counts.{count_in}
 use Rattle.cow_pages.specs.Leaf.{cleared}
 use Rattle.cow_pages.specs.Tables.{mapped_from, written_from}
-use Rattle.cow_pages.specs.Grid.{cell, held, all_held}
-use Rattle.cow_pages.specs.Store.{Row, frame_key, leaf_key, leaf_grid, table_grid, table_entries, bytes_of, frame_sharers, leaf_sharers, pages_kept, place_at, entry_in, entry_at, page_of_entry, mapped_counts, written_counts, mapped_kept, written_kept, shown, spare_of, CountsSlots, IsCounted, HasPages, IsKept, HasRoom, IsStore}
-use Rattle.cow_pages.specs.Steps.{SetsLeaf, KeepsTables, KeepsLeaves, SameEntries, SettlesLeaf, Settling, ClearsWritten}
+use Rattle.cow_pages.specs.Grid.{cell, held}
+use Rattle.cow_pages.specs.Store.{Row, frame_key, leaf_grid, table_grid, table_entries, bytes_of, frame_sharers, leaf_sharers, pages_kept, place_at, entry_in, entry_at, page_of_entry, mapped_counts, written_counts, mapped_kept, written_kept, shown, spare_of, CountsSlots, IsCounted, HasPages, IsKept, IsStore}
+use Rattle.cow_pages.specs.Steps.{SetsLeaf, KeepsTables, SameEntries, SettlesLeaf, Settling, ClearsWritten}
 use Rattle.cow_pages.proofs.LeafLemmas.{cleared-at, mapped-cleared, written-cleared}
-use Rattle.cow_pages.proofs.SharedLemmas.{leaf_held, leaf_within, leaf_length, stands, shared_leaf}
+use Rattle.cow_pages.proofs.SharedLemmas.{leaf_held, leaf_within, leaf_length, shared_leaf}
 use Rattle.cow_pages.proofs.ShownLemmas.{page_at-shown}
 use Rattle.cow_pages.proofs.StepLemmas.{HasPages-fewer, frames-leaf, frames-same, leaves-same, entry_in-same, only_place, this_or_other}
 use Rattle.cow_pages.proofs.OpLemmas.{whole-same, whole-set}

@@ -1,11 +1,10 @@
 -- Who shares a frame, by the counts of frames and leaves.
-use Rattle.std.proofs.Common.{◌≡◌, ◌≢◌, ℕ, ◌+◌, ◌*◌, ◌<◌, ◌≤◌, ◌/◌, ◌%◌, [], length, map, get_or, Some, None, Option, refl, sym, ap, ◌∙◌, inl, inr, arith}
-use Rattle.std.proofs.lemmas.List.{get_or_past, length-map}
+use Rattle.std.proofs.Common.{◌≡◌, ◌≢◌, ℕ, ◌+◌, ◌*◌, ◌<◌, ◌≤◌, ◌/◌, ◌%◌, [], length, get_or, Some, None, Option, refl, sym, ap, ◌∙◌, inl, inr, arith}
+use Rattle.std.proofs.lemmas.List.{get_or_past}
 use Rattle.std.proofs.lemmas.Bool.{cases_eq, cases_lt}
 use Rattle.std.proofs.lemmas.Option.{none-some, same_Some}
 use Rattle.std.proofs.lemmas.Nat.{div-add-mod', div-mul-add, mod-mul-add, mod_below}
 use Rattle.cow_pages.specs.declared.leaf.Entry.{Entry}
-use Rattle.cow_pages.specs.declared.leaf.Leaf.{Leaf}
 use Rattle.cow_pages.specs.declared.store.Store.{Store}
 use Rattle.cow_pages.specs.Grid.{cell}
 use Rattle.cow_pages.specs.Store.{frame_key, leaf_key, leaf_grid, table_grid, frame_sharers, leaf_sharers, place_at, entry_in, entry_at, HasCounts, IsKept}

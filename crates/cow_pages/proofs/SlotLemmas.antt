@@ -1,5 +1,5 @@
 -- A store after a slot of a leaf of a table's own was set, and what two steps after one another show.
-use Rattle.std.proofs.Common.{◌≡◌, ◌≢◌, ◌⊎◌, ℕ, ◌+◌, ◌-◌, ◌*◌, ◌<◌, ◌≤◌, ◌/◌, ◌%◌, Bool, true, false, List, [], length, get_or, set, Some, None, Option, is_some, IsTrue, refl, sym, ap, subst, ◌∙◌, inl, inr, arith}
+use Rattle.std.proofs.Common.{◌≡◌, ◌≢◌, ◌⊎◌, ℕ, ◌+◌, ◌-◌, ◌<◌, ◌≤◌, ◌/◌, ◌%◌, Bool, true, false, List, [], length, get_or, set, Some, None, Option, is_some, refl, sym, ap, ◌∙◌, inl, inr, arith}
 use Rattle.std.specs.Prelude.{min, option_map}
 use Rattle.std.proofs.lemmas.Nat.{mod_below}
 use Rattle.std.proofs.lemmas.Option.{none-some, same_Some}
@@ -7,10 +7,9 @@ use Rattle.sharers.specs.Shares.{Shares}
 use Rattle.cow_pages.specs.declared.leaf.Entry.{Entry}
 use Rattle.cow_pages.specs.declared.table.Table.{Table}
 use Rattle.cow_pages.specs.declared.store.Store.{Store}
-use Rattle.cow_pages.specs.Address.{is_in_window}
 use Rattle.cow_pages.specs.Counts.{count_in}
 use Rattle.cow_pages.specs.Grid.{cell, one_held}
-use Rattle.cow_pages.specs.Memory.{Memory, Page, page_at, frame_at, is_live, leaf_in, used_frames, used_leaves, distinct_count, leaves_of, HasOneSharer, IsShared}
+use Rattle.cow_pages.specs.Memory.{Memory, Page, page_at, used_frames, distinct_count, leaves_of, HasOneSharer, IsShared}
 use Rattle.cow_pages.specs.Change.{OwnsLeaf, TakesOnCopy, TakesFrame, TakesOne}
 use Rattle.cow_pages.specs.Tables.{window_of}
 use Rattle.cow_pages.specs.Store.{Row, frame_key, leaf_grid, table_grid, bytes_of, frame_sharers, leaf_sharers, place_at, entry_in, entry_at, mapped_counts, written_counts, page_of_entry, shown, IsKept, IsStore, IsReady}
@@ -18,7 +17,7 @@ use Rattle.cow_pages.specs.Steps.{Lone, SetsOwn, IsCountedAt, AddsRoom}
 use Rattle.cow_pages.proofs.RoomLemmas.{not_shared}
 use Rattle.cow_pages.proofs.SharedLemmas.{leaf_held, leaf_within, leaf_length, frame_held}
 use Rattle.cow_pages.proofs.ShownLemmas.{page_at-shown, frame-shown, one_or_more}
-use Rattle.cow_pages.proofs.SeenLemmas.{SamePages, page_as}
+use Rattle.cow_pages.proofs.SeenLemmas.{SamePages}
 use Rattle.cow_pages.proofs.SoundLemmas.{counted}
 
 abbrev pub entry_as : ℕ → Bool → Entry

@@ -1,16 +1,14 @@
 -- What holds of the memory that a store shows.
-use Rattle.std.proofs.Common.{◌≡◌, ◌≢◌, ℕ, zero, suc, ◌+◌, ◌<◌, ◌≤◌, ◌*◌, ◌/◌, ◌%◌, Bool, true, false, cond, List, [], ◌∷◌, map, length, get_or, Some, None, Option, count_by, is_some, IsTrue, refl, sym, ap, subst, ◌∙◌, inl, inr, arith, eqb, zero-add, add-zero, true≢false}
+use Rattle.std.proofs.Common.{◌≡◌, ◌≢◌, ℕ, zero, suc, ◌+◌, ◌<◌, ◌≤◌, ◌*◌, ◌/◌, ◌%◌, Bool, true, false, cond, List, [], ◌∷◌, length, get_or, Some, None, Option, count_by, is_some, IsTrue, refl, sym, ap, subst, ◌∙◌, inl, inr, arith, eqb, zero-add, add-zero, true≢false}
 use Rattle.std.specs.Prelude.{option_map, All}
-use Rattle.std.proofs.lemmas.List.{get_or_past, length-map}
+use Rattle.std.proofs.lemmas.List.{length-map}
 use Rattle.std.proofs.lemmas.Bool.{cases_eq, cases_lt, eq-eqb, ne_eqb, cond-true, cond-false}
 use Rattle.std.proofs.lemmas.Nat.{div-mul-add, mod_below}
 use Rattle.std.proofs.lemmas.Option.{none-some, same_Some}
 use Rattle.cow_pages.specs.Address.{is_in_window}
 use Rattle.cow_pages.specs.Memory.{Memory, Page, Table, page_at, frame_at, frames_of, is_mapped, is_written, flag_of, HasOneSharer, RisesFrom, IsSound, used_frames, used_leaves, distinct_count, row_leaves, leaves_of}
-use Rattle.cow_pages.specs.declared.frame.Frame.{Frame}
 use Rattle.cow_pages.specs.declared.leaf.Entry.{Entry}
 use Rattle.cow_pages.specs.declared.store.Store.{Store}
-use Rattle.sharers.specs.Shares.{AreTallied}
 use Rattle.cow_pages.specs.View.{numbers_from}
 use Rattle.cow_pages.specs.Grid.{cell, held, all_held}
 use Rattle.cow_pages.specs.Store.{Row, place_at, entry_in, entry_at, leaf_grid, table_grid, leaf_key, frame_sharers, leaf_sharers, pages_kept, bytes_of, page_of_entry, shown, flat, HasRoom, CountsSlots, IsKept, IsStore}

@@ -1,6 +1,6 @@
 -- A store after leaves alone were changed.
 use Rattle.std.proofs.Common.{◌≡◌, ◌≢◌, ◌⊎◌, ℕ, suc, ◌+◌, ◌*◌, ◌-◌, ◌<◌, ◌≤◌, ◌^◌, List, [], ◌∷◌, length, get_or, set, Some, None, Option, is_some, IsTrue, refl, sym, ap, subst, ◌∙◌, inl, inr, arith}
-use Rattle.std.specs.Prelude.{All, take}
+use Rattle.std.specs.Prelude.{All}
 use Rattle.std.proofs.lemmas.List.{get_or-set_same, get_or-set_other, length-set, length-map}
 use Rattle.std.proofs.lemmas.Bool.{cases_eq}
 use Rattle.std.proofs.lemmas.Option.{none-some, same_Some}
@@ -8,7 +8,7 @@ use Rattle.sharers.specs.Shares.{Shares, AreTallied}
 use Rattle.cow_pages.specs.declared.address.Window.{Window}
 use Rattle.cow_pages.specs.declared.leaf.Entry.{Entry}
 use Rattle.cow_pages.specs.declared.store.Store.{Store}
-use Rattle.cow_pages.specs.Memory.{HasOwnLeaf, HasSharedLeaf, IsFreeLeaf, used_leaves}
+use Rattle.cow_pages.specs.Memory.{HasOwnLeaf, HasSharedLeaf, IsFreeLeaf}
 use Rattle.cow_pages.specs.Change.{OwnsLeaf}
 use Rattle.cow_pages.specs.Tables.{mapped_from, written_from}
 use Rattle.cow_pages.specs.Grid.{held, one_held, all_held}

@@ -3,7 +3,7 @@ use Rattle.std.proofs.Common.{◌≡◌, ◌≢◌, ℕ, zero, suc, ◌+◌, ◌
 use Rattle.std.specs.Prelude.{All, replicate, min, option_map}
 use Rattle.std.proofs.lemmas.List.{length-append, length-replicate, length-map, length-set, map-set, get_or-map, get_or-set_same, get_or-set_other}
 use Rattle.std.proofs.lemmas.Bool.{cases_eq}
-use Rattle.std.proofs.lemmas.Option.{none-some, same_Some}
+use Rattle.std.proofs.lemmas.Option.{none-some}
 use Rattle.sharers.specs.Shares.{Shares, AreTallied, count_of}
 use Rattle.cow_pages.specs.declared.address.Window.{Window}
 use Rattle.cow_pages.specs.declared.leaf.Entry.{Entry}
@@ -14,8 +14,8 @@ use Rattle.cow_pages.specs.Memory.{page_at, is_live, used_leaves, IsSettled}
 use Rattle.cow_pages.specs.Change.{ChangesTable, KeepsRoom, OtherLeaves}
 use Rattle.cow_pages.specs.Counts.{count_in, no_counts}
 use Rattle.cow_pages.specs.Tables.{mapped_from, written_from, mapped_one, written_one}
-use Rattle.cow_pages.specs.Grid.{cell, held, all_held}
-use Rattle.cow_pages.specs.Store.{Row, row_of, leaf_key, leaf_grid, table_grid, table_entries, bytes_of, frame_sharers, leaf_sharers, pages_kept, place_at, entry_in, entry_at, flat, page_of_entry, mapped_counts, written_counts, mapped_kept, written_kept, shown, spare_of, CountsSlots, IsFilled, IsCounted, IsKept, HasRoom, IsStore}
+use Rattle.cow_pages.specs.Grid.{held, all_held}
+use Rattle.cow_pages.specs.Store.{Row, row_of, leaf_key, leaf_grid, table_grid, table_entries, bytes_of, frame_sharers, leaf_sharers, pages_kept, place_at, entry_in, entry_at, flat, page_of_entry, mapped_counts, written_counts, shown, spare_of, CountsSlots, IsCounted, IsKept, HasRoom, IsStore}
 use Rattle.cow_pages.specs.Steps.{SetsRow, KeepsLeaves, SameEntries, SameBytes, SeemsSame, AddsTable, Forks, Settled}
 use Rattle.cow_pages.proofs.GridLemmas.{held-empty}
 use Rattle.cow_pages.proofs.CountLemmas.{count-joined, count-here, count-other, held-le, take-all}

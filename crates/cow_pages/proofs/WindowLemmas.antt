@@ -1,6 +1,6 @@
 -- Windows, and a count for each of them.
 use Rattle.std.proofs.Common.{◌≡◌, ℕ, ◌+◌, ◌*◌, ◌-◌, ◌<◌, ◌≤◌, Bool, true, false, cond, ltb, leb, ◌&&◌, ◌||◌, IsTrue, refl, sym, ap, ◌∙◌, true≢false, ◌⊎◌, inl, inr, arith}
-use Rattle.std.proofs.lemmas.Bool.{ltb-true, ltb-false, leb-true, and_left, and_right, and_from, and_parts, cond-true, cond-false, le-leb, lt-ltb, le-ltb}
+use Rattle.std.proofs.lemmas.Bool.{ltb-true, leb-true, and_left, and_right, and_from, and_parts, cond-true, cond-false, le-leb, lt-ltb, le-ltb}
 use Rattle.cow_pages.specs.declared.address.Window.{Window}
 use Rattle.cow_pages.specs.declared.address.Window.TheVariants.{Image, Zygote, Regions, Large}
 use Rattle.cow_pages.specs.declared.table.Counts.{Counts}

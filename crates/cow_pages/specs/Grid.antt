@@ -1,5 +1,5 @@
 -- Rows of places that may be empty, and how many places have a key. No public clause cites this module.
-use Rattle.std.specs.Prelude.{◌≡◌, ℕ, ◌+◌, ◌==◌, if◌then◌else◌, List, [], ◌∷◌, Option, Some, None, slice_index_or}
+use Rattle.std.specs.Prelude.{ℕ, ◌+◌, ◌==◌, if◌then◌else◌, List, [], ◌∷◌, Option, Some, None, slice_index_or}
 
 -- what stands in a row at a column
 abbrev pub cell : {E : Type 0} → List (List (Option E)) → ℕ → ℕ → Option E

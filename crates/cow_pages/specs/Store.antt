@@ -1,5 +1,5 @@
 -- Frames, leaves that share frames, and tables that share leaves; what they show. No public clause cites this module.
-use Rattle.std.specs.Prelude.{◌≡◌, ◌≢◌, ℕ, ◌+◌, ◌<◌, ◌/◌, ◌%◌, if◌then◌else◌, List, [], ◌∷◌, ◌++◌, length, map, replicate, min, All, Option, Some, None, slice_index_or, true, false, is_some, IsTrue}
+use Rattle.std.specs.Prelude.{◌≡◌, ◌≢◌, ℕ, ◌+◌, ◌<◌, ◌/◌, ◌%◌, if◌then◌else◌, List, [], ◌∷◌, ◌++◌, length, map, replicate, min, All, Option, Some, None, slice_index_or, true, is_some, IsTrue}
 use Rattle.model_numbers.specs.Numbers.{page_bytes}
 use Rattle.sharers.specs.Shares.{count_of, AreTallied}
 use Rattle.cow_pages.specs.Address.{is_in_window, leaf_pages, table_leaves}

@@ -1,5 +1,5 @@
-use Rattle.std.proofs.Common.{◌≡◌, ◌+◌, ◌<◌, ℕ, List, Some, None, length, Option, refl, sym, ap, subst, ◌∙◌, arith}
-use Rattle.sharers.specs.Shares.{Shares, AreTallied, count_of}
+use Rattle.std.proofs.Common.{◌+◌, ℕ, List, Option, refl, sym, ap, subst, ◌∙◌, arith}
+use Rattle.sharers.specs.Shares.{Shares, count_of}
 use Rattle.cow_pages.specs.Grid.{held}
 use Rattle.cow_pages.specs.Store.{leaf_key}
 use Rattle.cow_pages.specs.Steps.{SharesLeaves}

@@ -1,4 +1,4 @@
-use Rattle.std.proofs.Common.{rules, sym, ◌∙◌, ◌≡◌, ap, subst, arith, get_or, refl}
+use Rattle.std.proofs.Common.{sym, ◌∙◌, ◌≡◌, ap, subst, arith, get_or, refl}
 use Rattle.std.specs.Int.{w32, from_le_bytes}
 use Rattle.cow_pages.specs.declared.store.Store.{Store}
 use Rattle.cow_pages.specs.View.{u32_at}

@@ -1,5 +1,5 @@
 use Rattle.std.proofs.Common.{◌≡◌, ◌≤◌, arith, ap}
-use Rattle.std.specs.Prelude.{◌-◌, IsOk}
+use Rattle.std.specs.Prelude.{◌-◌}
 use Rattle.std.proofs.lemmas.Result.{on_ok_weaker}
 use Rattle.cow_pages.specs.Memory.{Memory, page_at}
 use Rattle.cow_pages.specs.Store.{shown}

@@ -1,6 +1,5 @@
-use Rattle.std.proofs.Common.{Option, sym, ◌∙◌, ap}
+use Rattle.std.proofs.Common.{sym, ◌∙◌, ap}
 use Rattle.std.specs.Prelude.{option_map}
-use Rattle.cow_pages.specs.declared.leaf.Entry.{Entry}
 use Rattle.cow_pages.specs.Memory.{flag_of}
 use Rattle.cow_pages.specs.Store.{page_of_entry}
 use Rattle.cow_pages.proofs.ShownLemmas.{page_at-shown}

@@ -1,5 +1,4 @@
-use Rattle.std.proofs.Common.{◌≡◌, ◌+◌, length, get_or, set, None, arith}
-use Rattle.cow_pages.specs.Leaf.{present, one_mapped}
+use Rattle.std.proofs.Common.{None, arith}
 use Rattle.cow_pages.proofs.LeafLemmas.{present-set, present-le, one_mapped-le}
 use Rattle.cow_pages.proofs.leaf.Leaf.set.Goals as goal
 

@@ -1,4 +1,4 @@
-use Rattle.std.proofs.Common.{◌≡◌, ◌<◌, None, length, map, get_or, arith, ap, sym, ◌∙◌, below_more}
+use Rattle.std.proofs.Common.{◌≡◌, ◌<◌, None, length, map, arith, ap, sym, ◌∙◌, below_more}
 use Rattle.std.proofs.lemmas.List.{ext_get_or, length-map, length-set, get_or-set_same, get_or-set_other}
 use Rattle.cow_pages.specs.Leaf.{cleared}
 use Rattle.cow_pages.proofs.LeafLemmas.{cleared-at}

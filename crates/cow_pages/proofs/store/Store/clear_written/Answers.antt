@@ -2,7 +2,7 @@ use Rattle.std.proofs.Common.{◌≡◌, Option, None, List, refl, sym, ap, ◌�
 use Rattle.cow_pages.specs.declared.table.Counts.{Counts}
 use Rattle.cow_pages.specs.declared.table.Table.{Table}
 use Rattle.cow_pages.specs.declared.store.Store.{Store}
-use Rattle.cow_pages.specs.Counts.{count_in, no_counts}
+use Rattle.cow_pages.specs.Counts.{count_in}
 use Rattle.cow_pages.specs.Store.{mapped_counts, written_counts}
 use Rattle.cow_pages.proofs.WindowLemmas.{count-none}
 use Rattle.cow_pages.proofs.CodeLemmas.{live_within, table_is, ReplacesTable, replaced-here, replaced-other, replaced-live, replaced-len, replaced-grid}

@@ -1,7 +1,7 @@
-use Rattle.std.proofs.Common.{rules, ◌≡◌, ◌≢◌, ◌<◌, ◌≤◌, ◌/◌, ◌%◌, ◌-◌, ℕ, List, [], length, get_or, set, Option, Some, None, is_some, true≢false, refl, sym, ap, subst, ◌∙◌, inl, inr, arith}
+use Rattle.std.proofs.Common.{rules, ◌≡◌, ◌≤◌, ◌/◌, ◌%◌, ◌-◌, [], length, get_or, set, Some, true≢false, sym, ap, subst, ◌∙◌, inl, inr, arith}
 use Rattle.std.specs.Prelude.{is_ok}
 use Rattle.std.proofs.lemmas.Bool.{cases_lt}
-use Rattle.cow_pages.specs.Memory.{is_live, IsShared}
+use Rattle.cow_pages.specs.Memory.{IsShared}
 use Rattle.cow_pages.specs.declared.leaf.Entry.{Entry}
 use Rattle.cow_pages.specs.declared.store.Store.{Store}
 use Rattle.cow_pages.specs.Store.{leaf_grid, shown, spare_of, CountsSlots}
@@ -13,7 +13,7 @@ use Rattle.cow_pages.proofs.SeenLemmas.{live-shown}
 use Rattle.cow_pages.proofs.ReadLemmas.{live_there, place_live}
 use Rattle.cow_pages.proofs.RoomLemmas.{on_err}
 use Rattle.cow_pages.proofs.SlotLemmas.{shared_flag}
-use Rattle.cow_pages.proofs.CopyLemmas.{reserved_live, copied_more, copied_page, copied_entry, CopiesEntry}
+use Rattle.cow_pages.proofs.CopyLemmas.{reserved_live, copied_more, copied_page, copied_entry}
 use Rattle.cow_pages.proofs.store.Store.copy.Goals as goal
 
 pub own_leaf-leaf-requires : goal.own_leaf-leaf-requires

@@ -1,4 +1,4 @@
-use Rattle.std.proofs.Common.{◌≡◌, ◌<◌, List, Option, [], length, get_or, set, map, sym, ap, ◌∙◌, arith}
+use Rattle.std.proofs.Common.{List, Option, set, map, sym, ap, ◌∙◌}
 use Rattle.std.proofs.lemmas.List.{map-set}
 use Rattle.cow_pages.specs.declared.leaf.Entry.{Entry}
 use Rattle.cow_pages.specs.declared.leaf.Leaf.{Leaf}

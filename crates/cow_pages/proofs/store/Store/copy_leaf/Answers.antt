@@ -1,10 +1,8 @@
-use Rattle.std.proofs.Common.{◌≡◌, ◌≢◌, ◌+◌, ◌-◌, ◌<◌, ◌≤◌, ℕ, List, [], length, get_or, set, Option, Some, None, is_some, refl, sym, ap, subst, ◌∙◌, arith}
-use Rattle.std.proofs.lemmas.List.{length-set, length-map, get_or-set_other}
-use Rattle.sharers.specs.Shares.{Shares, AreTallied, count_of}
-use Rattle.cow_pages.specs.declared.leaf.Entry.{Entry}
+use Rattle.std.proofs.Common.{ℕ, List, [], length, get_or, None, is_some, ap, ◌∙◌, arith}
+use Rattle.std.proofs.lemmas.List.{length-set, length-map}
 use Rattle.cow_pages.specs.declared.leaf.Leaf.{Leaf}
 use Rattle.cow_pages.specs.declared.store.Store.{Store}
-use Rattle.cow_pages.specs.Store.{Row, leaf_grid, table_grid, leaf_sharers, pages_kept, CountsSlots}
+use Rattle.cow_pages.specs.Store.{table_grid}
 use Rattle.cow_pages.proofs.GridLemmas.{cell-column}
 use Rattle.cow_pages.proofs.SharedLemmas.{leaf_held, leaf_length, leaf_within}
 use Rattle.cow_pages.proofs.SoundLemmas.{leaf_there}

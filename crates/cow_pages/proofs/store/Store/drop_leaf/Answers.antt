@@ -1,8 +1,6 @@
-use Rattle.std.proofs.Common.{◌≡◌, ◌<◌, ◌≤◌, ℕ, List, [], None, Option, is_some, length, get_or, sym, ap, ◌∙◌, inl, inr, arith}
-use Rattle.std.proofs.lemmas.Bool.{cases_eq}
+use Rattle.std.proofs.Common.{[], None, is_some, length, get_or, ap, ◌∙◌, arith}
 use Rattle.cow_pages.specs.declared.store.Store.{Store}
 use Rattle.cow_pages.specs.Store.{table_grid, leaf_sharers}
-use Rattle.cow_pages.specs.Steps.{Ending}
 use Rattle.cow_pages.proofs.GridLemmas.{cell-column}
 use Rattle.cow_pages.proofs.SharedLemmas.{leaf_held, leaf_within}
 use Rattle.cow_pages.proofs.SoundLemmas.{leaf_there}

@@ -1,8 +1,7 @@
-use Rattle.std.proofs.Common.{◌≡◌, ◌+◌, ◌-◌, ◌<◌, cond, ℕ, List, [], None, Some, Option, is_some, length, get_or, set, refl, subst, sym, ap, ◌∙◌, arith}
+use Rattle.std.proofs.Common.{◌≡◌, ◌+◌, ◌-◌, cond, ℕ, None, set, refl, subst, sym, ap, ◌∙◌, arith}
 use Rattle.std.specs.Vec.{with_item}
 use Rattle.sharers.specs.Shares.{count_of}
 use Rattle.cow_pages.specs.declared.store.Store.{Store}
-use Rattle.cow_pages.specs.Store.{table_grid}
 use Rattle.cow_pages.specs.Steps.{Ending}
 use Rattle.cow_pages.proofs.CodeLemmas.{live_within}
 use Rattle.cow_pages.proofs.ReadLemmas.{live_there}

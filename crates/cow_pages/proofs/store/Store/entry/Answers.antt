@@ -1,5 +1,5 @@
-use Rattle.std.proofs.Common.{◌≡◌, ◌/◌, ◌%◌, ℕ, Some, None, Option, sym, ap, ◌∙◌, arith}
-use Rattle.cow_pages.specs.Store.{place_at, entry_in}
+use Rattle.std.proofs.Common.{◌/◌, ◌%◌, ℕ, Option, sym, ap, ◌∙◌, arith}
+use Rattle.cow_pages.specs.Store.{entry_in}
 use Rattle.cow_pages.proofs.SoundLemmas.{leaf_there}
 use Rattle.cow_pages.proofs.ReadLemmas.{live_there}
 use Rattle.cow_pages.proofs.store.Store.entry.Goals as goal

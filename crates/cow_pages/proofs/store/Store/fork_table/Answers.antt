@@ -1,5 +1,4 @@
-use Rattle.std.proofs.Common.{◌≡◌, ◌+◌, ◌<◌, ℕ, List, Option, length, refl, sym, ap, ◌∙◌, arith}
-use Rattle.sharers.specs.Shares.{Shares, count_of}
+use Rattle.std.proofs.Common.{◌≡◌, ◌+◌, length, ap, ◌∙◌, arith}
 use Rattle.cow_pages.specs.declared.store.Store.{Store}
 use Rattle.cow_pages.specs.Grid.{held}
 use Rattle.cow_pages.specs.Store.{Row, leaf_key, leaf_sharers}

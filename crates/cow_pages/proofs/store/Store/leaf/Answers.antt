@@ -1,7 +1,6 @@
-use Rattle.std.proofs.Common.{◌≡◌, ◌/◌, ℕ, Some, None, Option, is_some, sym, ap, ◌∙◌, arith}
+use Rattle.std.proofs.Common.{◌/◌, None, Option, is_some, sym, ap, ◌∙◌}
 use Rattle.std.specs.Prelude.{option_map}
 use Rattle.std.proofs.lemmas.Bool.{cond-true, cond-false}
-use Rattle.cow_pages.specs.declared.leaf.Entry.{Entry}
 use Rattle.cow_pages.specs.Memory.{Page, is_mapped}
 use Rattle.cow_pages.specs.Store.{place_at, shown, page_of_entry, table_grid}
 use Rattle.cow_pages.proofs.GridLemmas.{cell-column}

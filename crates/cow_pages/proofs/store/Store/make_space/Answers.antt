@@ -1,5 +1,4 @@
 use Rattle.std.proofs.Common.{refl}
-use Rattle.cow_pages.specs.declared.store.Store.{Store}
 use Rattle.cow_pages.proofs.JoinLemmas.{took}
 use Rattle.cow_pages.proofs.store.Store.make_space.Goals as goal
 

@@ -1,9 +1,9 @@
-use Rattle.std.proofs.Common.{rules, ◌≡◌, ◌≢◌, ◌<◌, ◌≤◌, ◌/◌, ◌-◌, ℕ, true≢false, sym, ap, ◌∙◌, arith}
+use Rattle.std.proofs.Common.{rules, ◌-◌, true≢false, sym, ap, ◌∙◌, arith}
 use Rattle.std.specs.Prelude.{is_ok}
 use Rattle.cow_pages.proofs.WindowLemmas.{window_below}
 use Rattle.cow_pages.proofs.ReadLemmas.{live_there}
 use Rattle.cow_pages.proofs.SlotLemmas.{reserved_pages, entry_none}
-use Rattle.cow_pages.proofs.CopyLemmas.{reserved_live, mapped_zero, MappedZero}
+use Rattle.cow_pages.proofs.CopyLemmas.{reserved_live, mapped_zero}
 use Rattle.cow_pages.proofs.store.Store.map_zero.Goals as goal
 
 pub own_leaf-leaf-requires-clause-live : goal.own_leaf-leaf-requires-clause-live

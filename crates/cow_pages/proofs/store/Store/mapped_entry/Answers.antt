@@ -1,6 +1,5 @@
-use Rattle.std.proofs.Common.{◌≡◌, ◌/◌, ◌%◌, ℕ, Some, None, Option, sym, ap, ◌∙◌, arith}
+use Rattle.std.proofs.Common.{◌/◌, ◌%◌, ℕ, Option, sym, ap, ◌∙◌}
 use Rattle.std.proofs.lemmas.Option.{none-some}
-use Rattle.std.proofs.lemmas.Nat.{mod_below}
 use Rattle.cow_pages.specs.Store.{table_grid, entry_in}
 use Rattle.cow_pages.proofs.GridLemmas.{cell-column}
 use Rattle.cow_pages.proofs.SharedLemmas.{stands}

@@ -1,4 +1,3 @@
-use Rattle.std.proofs.Common.{refl}
 use Rattle.cow_pages.proofs.RoomLemmas.{on_err}
 use Rattle.cow_pages.proofs.TableLemmas.{new_begins, seems_used, seems_room, seems_shown}
 use Rattle.cow_pages.proofs.store.Store.new_table.Goals as goal

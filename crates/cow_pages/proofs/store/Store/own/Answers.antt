@@ -1,7 +1,7 @@
-use Rattle.std.proofs.Common.{◌≡◌, ◌≢◌, ◌⊎◌, ◌<◌, ◌/◌, ℕ, Some, None, sym, ap, ◌∙◌, inl, inr, arith}
+use Rattle.std.proofs.Common.{◌≢◌, ◌⊎◌, ◌/◌, sym, ◌∙◌, inl, inr, arith}
 use Rattle.std.proofs.lemmas.Option.{none-some}
 use Rattle.cow_pages.specs.Memory.{IsShared}
-use Rattle.cow_pages.specs.Store.{shown, table_grid, place_at, frame_sharers, leaf_sharers}
+use Rattle.cow_pages.specs.Store.{shown, table_grid, frame_sharers, leaf_sharers}
 use Rattle.cow_pages.proofs.GridLemmas.{cell-column}
 use Rattle.cow_pages.proofs.CountLemmas.{count-within}
 use Rattle.cow_pages.proofs.RoomLemmas.{not_shared}

@@ -1,4 +1,4 @@
-use Rattle.std.proofs.Common.{sym, ◌∙◌, arith}
+use Rattle.std.proofs.Common.{arith}
 use Rattle.cow_pages.proofs.store.Store.own_leaf.Goals as goal
 
 pub place-requires-clause-within : goal.place-requires-clause-within

@@ -1,4 +1,4 @@
-use Rattle.std.proofs.Common.{◌≡◌, ◌≢◌, ◌<◌, ◌/◌, ℕ, length, map, Some, None, sym, ap, ◌∙◌, arith}
+use Rattle.std.proofs.Common.{◌≢◌, ◌<◌, ◌/◌, sym, ◌∙◌, arith}
 use Rattle.std.proofs.lemmas.Option.{none-some}
 use Rattle.cow_pages.specs.declared.leaf.Leaf.{Leaf}
 use Rattle.cow_pages.specs.Store.{table_grid, pages_kept}
@@ -8,7 +8,7 @@ use Rattle.cow_pages.proofs.SharedLemmas.{stands}
 use Rattle.cow_pages.proofs.SoundLemmas.{leaf_there}
 use Rattle.cow_pages.proofs.ReadLemmas.{mapped_entry, place_live}
 use Rattle.cow_pages.proofs.SlotLemmas.{one_counts}
-use Rattle.cow_pages.proofs.FreeLemmas.{Released, released_stays, released_leaves}
+use Rattle.cow_pages.proofs.FreeLemmas.{released_stays, released_leaves}
 use Rattle.cow_pages.proofs.store.Store.release.Goals as goal
 
 pub place-requires-clause-live : goal.place-requires-clause-live

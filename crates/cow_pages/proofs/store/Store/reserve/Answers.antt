@@ -1,6 +1,6 @@
 use Rattle.std.proofs.Common.{◌≡◌, ◌-◌, ℕ, subst, arith}
 use Rattle.cow_pages.specs.Steps.{AddsRoom}
-use Rattle.cow_pages.proofs.JoinLemmas.{AddSteps, reserved}
+use Rattle.cow_pages.proofs.JoinLemmas.{reserved}
 use Rattle.cow_pages.proofs.store.Store.reserve.Goals as goal
 
 pub returns-clause-store : goal.returns-clause-store

@@ -1,4 +1,4 @@
-use Rattle.std.proofs.Common.{None, refl, sym, ◌∙◌}
+use Rattle.std.proofs.Common.{None, refl}
 use Rattle.cow_pages.proofs.CodeLemmas.{set_place_tables, live_within, table_is, keeps-counts}
 use Rattle.cow_pages.proofs.store.Store.set_place.Goals as goal
 

@@ -1,4 +1,4 @@
-use Rattle.std.proofs.Common.{◌≡◌, ◌+◌, ◌<◌, ℕ, List, [], None, Some, Option, is_some, length, get_or, subst, sym, ap, ◌∙◌, arith}
+use Rattle.std.proofs.Common.{◌≡◌, ◌+◌, [], None, is_some, length, get_or, subst, sym, ap, ◌∙◌, arith}
 use Rattle.cow_pages.specs.declared.store.Store.{Store}
 use Rattle.cow_pages.specs.Store.{table_grid}
 use Rattle.cow_pages.specs.Steps.{Settling}

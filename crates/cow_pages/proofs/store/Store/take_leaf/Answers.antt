@@ -1,7 +1,5 @@
-use Rattle.std.proofs.Common.{sym, ap, ◌∙◌, arith}
-use Rattle.cow_pages.specs.declared.store.Store.{Store}
-use Rattle.cow_pages.specs.Store.{place_at}
-use Rattle.cow_pages.proofs.StoreLemmas.{Readied, taken}
+use Rattle.std.proofs.Common.{arith}
+use Rattle.cow_pages.proofs.StoreLemmas.{taken}
 use Rattle.cow_pages.proofs.store.Store.take_leaf.Goals as goal
 
 pub set_place-requires-clause-within : goal.set_place-requires-clause-within

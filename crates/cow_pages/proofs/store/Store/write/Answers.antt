@@ -1,10 +1,9 @@
-use Rattle.std.proofs.Common.{◌≡◌, ◌<◌, ◌≤◌, ℕ, Some, IsTrue, sym, ap, subst, ◌∙◌, arith}
-use Rattle.cow_pages.specs.Address.{page_of}
+use Rattle.std.proofs.Common.{◌≡◌, Some, IsTrue, sym, subst, arith}
 use Rattle.cow_pages.specs.Memory.{is_mapped}
 use Rattle.cow_pages.specs.Store.{shown, entry_at}
 use Rattle.cow_pages.specs.Steps.{PutsBytes}
 use Rattle.cow_pages.proofs.SoundLemmas.{entry_within}
-use Rattle.cow_pages.proofs.MarkLemmas.{written_before, WrittenBefore}
+use Rattle.cow_pages.proofs.MarkLemmas.{written_before}
 use Rattle.cow_pages.proofs.store.Store.write.Goals as goal
 
 pub mapped_entry-entry-requires : goal.mapped_entry-entry-requires
