@@ -1,11 +1,11 @@
 -- What stands first in a list under its identifier.
-use Rattle.std.proofs.Common.{◌≡◌, ℕ, ◌||◌, Bool, true, false, cond, not, nat_eq, List, [], ◌∷◌, ◌++◌, map, Some, refl, ap, sym, ◌∙◌, subst}
-use Rattle.std.specs.Prelude.{filter}
+use Rattle.std.proofs.Common.{◌≡◌, ℕ, ◌||◌, Bool, true, false, cond, not, nat_eq, List, [], ◌∷◌, ◌++◌, map, None, Some, refl, ap, sym, ◌∙◌, subst}
+use Rattle.std.specs.Prelude.{filter, position}
 use Rattle.std.specs.List.{find, list_any}
 use Rattle.std.proofs.lemmas.List.{append-nil}
 use Rattle.std.proofs.lemmas.List.Elements.{filter-append}
-use Rattle.dump_graph.specs.Firsts.{firsts}
-use Rattle.dump_graph.proofs.Positions.{equal_from, nat_eq-sym, nat_eq-same}
+use Rattle.dump_graph.specs.Firsts.{firsts, with_first}
+use Rattle.dump_graph.proofs.Positions.{any-none, equal_from, nat_eq-sym, nat_eq-same, position-none}
 
 module _ {X : Type 0} (f : X → ℕ) where
   -- taking out the elements that are the same as another one leaves those that are the same as x
@@ -70,3 +70,14 @@ module _ {X : Type 0} (f : X → ℕ) where
           → cond t (Some x) (find (λ y. nat_eq id (f y)) (filter (λ q. not (nat_eq (f x) (f q))) (firsts f xs))) ≡ cond t (Some x) (find (λ y. nat_eq id (f y)) xs)
       by rest true is = refl
       by rest false is = find-kept (f x) id is (firsts f xs) ∙ rest
+
+  -- one that is new is appended, and another one isn't
+  pub first-new : (xs : List X) (x : X) → position (nat_eq (f x)) (map f xs) ≡ None → with_first f xs x ≡ xs ++ x ∷ []
+  first-new xs x new = ap (λ b. cond b xs (xs ++ x ∷ [])) (position-none (nat_eq (f x)) (map f xs) new)
+
+  pub first-known : (xs : List X) (x : X) → (position (nat_eq (f x)) (map f xs) ≡ None → ⊥) → with_first f xs x ≡ xs
+  first-known xs x known = by (list_any (nat_eq (f x)) (map f xs)) refl
+    where
+      by : (b : Bool) → list_any (nat_eq (f x)) (map f xs) ≡ b → cond b xs (xs ++ x ∷ []) ≡ xs
+      by true is = refl
+      by false is = absurd (known (any-none (nat_eq (f x)) (map f xs) is))

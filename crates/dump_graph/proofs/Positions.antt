@@ -101,3 +101,12 @@ position-by f id (x ∷ xs) =
     ∙ (ap (λ b. cond b (Some 0) (option_map suc (position (λ y. nat_eq (f y) id) xs))) (nat_eq-sym (f x) id)
     ∙ (ap (λ o. cond (nat_eq id (f x)) (Some 0) (option_map suc o)) (position-by f id xs)
     ∙ sym (position-cons (nat_eq id) (f x) (map f xs))))
+
+-- where none passes, nothing is found
+pub any-none : {X : Type 0} (p : X → Bool) (xs : List X) → list_any p xs ≡ false → position p xs ≡ None
+any-none p [] none = refl
+any-none p (x ∷ xs) none = position-cons p x xs ∙ by (any-none p xs) (p x) none
+  where
+    by : (list_any p xs ≡ false → position p xs ≡ None) → (b : Bool) → (b || list_any p xs) ≡ false → cond b (Some 0) (option_map suc (position p xs)) ≡ None
+    by rest true none = absurd cc
+    by rest false none = ap (option_map suc) (rest none)
