@@ -1,7 +1,7 @@
 -- The climbs from all classes, as lists.
 use Rattle.std.proofs.Common.{◌≡◌, ℕ, zero, suc, ◌+◌, ◌<◌, List, map, length, get_or, Option, None, Some, refl, ap, sym, ◌∙◌, arith, subst, ◌*◌, ◌/◌, ◌%◌}
 use Rattle.std.specs.Prelude.{All}
-use Rattle.std.proofs.lemmas.Grind.{common_steps}
+use Rattle.std.proofs.Math.Nat.{add-mul, mul-add, zero-mul}
 use Rattle.std.specs.Option.{option_or}
 use Rattle.std.specs.List.{range_with_len}
 use Rattle.std.proofs.lemmas.List.{get_or-map, get_or_default, length-map}
@@ -65,10 +65,16 @@ climbs-begin known steps climbs power none one =
     (0, 1, (subst (AreClimbs known 0) (sym none) (climbs-standing known), subst (AreClimbs known 1) (sym one) (climbs-steps known), omega arith))
 
 odd-steps : (done left half each steps : ℕ) → left ≡ half * 2 + 1 → done + left * each ≡ steps → (done + each) + half * (each + each) ≡ steps
-odd-steps done left half each steps is had = grind (arith, common_steps, is, had)
+odd-steps done left half each steps is had =
+    let twice : left ≡ (half + half) + 1 = omega (arith, is) in
+    let times : left * each ≡ ((half + half) + 1) * each = ap (λ n. n * each) twice in
+    omega (arith, times, add-mul (half + half) 1 each, add-mul half half each, mul-add half each each, had)
 
 even-steps : (done left half each steps : ℕ) → left ≡ half * 2 → done + left * each ≡ steps → done + half * (each + each) ≡ steps
-even-steps done left half each steps is had = grind (arith, common_steps, is, had)
+even-steps done left half each steps is had =
+    let twice : left ≡ half + half = omega (arith, is) in
+    let times : left * each ≡ (half + half) * each = ap (λ n. n * each) twice in
+    omega (arith, times, add-mul half half each, mul-add half each each, had)
 
 pub climbs-odd : (known : List Class) (steps left half : ℕ) (climbs power climbs' power' : List Climb) → HasClimbed known steps left climbs power → left ≡ half * 2 + 1
     → climbs' ≡ map (join_with power) climbs → power' ≡ map (join_with power) power → HasClimbed known steps half climbs' power'
@@ -82,7 +88,9 @@ climbs-even known steps left half climbs power power' (done, each, (a, b, had)) 
     (done, each + each, (a, subst (AreClimbs known (each + each)) (sym also) (climbs-joined known each each power power b b), even-steps done left half each steps even had))
 
 none-left : (done left each steps : ℕ) → left ≡ 0 → done + left * each ≡ steps → done ≡ steps
-none-left done left each steps none is = grind (arith, common_steps, none, is)
+none-left done left each steps none is =
+    let times : left * each ≡ 0 * each = ap (λ n. n * each) none in
+    omega (arith, times, zero-mul each, is)
 
 pub climbs-end : (known : List Class) (steps left : ℕ) (climbs power : List Climb) → HasClimbed known steps left climbs power → left ≡ 0 → AreClimbs known steps climbs
 climbs-end known steps left climbs power (done, each, (a, b, had)) none = subst (λ s. AreClimbs known s climbs) (none-left done left each steps none had) a

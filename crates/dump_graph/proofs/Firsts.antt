@@ -1,11 +1,16 @@
 -- What stands first in a list under its identifier.
 use Rattle.std.proofs.Common.{◌≡◌, ℕ, ◌||◌, Bool, true, false, cond, not, nat_eq, List, [], ◌∷◌, ◌++◌, map, None, Some, refl, ap, sym, ◌∙◌, subst}
-use Rattle.std.specs.Prelude.{filter, position}
+use Rattle.std.specs.Prelude.{◌↔◌, filter, position, IsNone, Option}
+use Rattle.std.specs.Option.{is_some}
 use Rattle.std.specs.List.{find, list_any}
 use Rattle.std.proofs.lemmas.List.{append-nil}
 use Rattle.std.proofs.lemmas.List.Elements.{filter-append}
 use Rattle.dump_graph.specs.Firsts.{firsts, with_first}
 use Rattle.dump_graph.proofs.Positions.{any-none, equal_from, nat_eq-sym, nat_eq-same, position-none}
+
+pub none-is : {X : Type 0} (o : Option X) → IsNone o → o ≡ None
+none-is None none = refl
+none-is (Some x) none = absurd cc
 
 module _ {X : Type 0} (f : X → ℕ) where
   -- taking out the elements that are the same as another one leaves those that are the same as x
@@ -81,3 +86,14 @@ module _ {X : Type 0} (f : X → ℕ) where
       by : (b : Bool) → list_any (nat_eq (f x)) (map f xs) ≡ b → cond b xs (xs ++ x ∷ []) ≡ xs
       by true is = refl
       by false is = absurd (known (any-none (nat_eq (f x)) (map f xs) is))
+
+  -- the same by what an addition of its identifier tells
+  module _ (xs : List X) (x : X) (ids : List ℕ) (id : ℕ) (is_new : Bool) (are : ids ≡ map f xs) (is : id ≡ f x) (told : (is_new ≡ true) ↔ IsNone (position (nat_eq id) ids)) where
+    place : position (nat_eq (f x)) (map f xs) ≡ position (nat_eq id) ids
+    place = ap (λ i. position (nat_eq i) (map f xs)) (sym is) ∙ ap (position (nat_eq id)) (sym are)
+
+    pub added-new : is_new ≡ true → with_first f xs x ≡ xs ++ x ∷ []
+    added-new new = first-new xs x (place ∙ none-is (position (nat_eq id) ids) (told.0 new))
+
+    pub added-known : is_new ≡ false → with_first f xs x ≡ xs
+    added-known old = first-known xs x (λ none. absurd (cc (told.1 (ap is_some (sym place ∙ none)), old)))

@@ -1,19 +1,33 @@
 -- The marks of roots.
-use Rattle.std.proofs.Common.{◌≡◌, ◌≢◌, ℕ, ◌<◌, ◌||◌, Bool, true, false, nat_eq, List, length, get_or, Option, None, Some, refl, ap, sym, ◌∙◌, arith, subst}
+use Rattle.std.proofs.Common.{◌≡◌, ◌≢◌, ℕ, ◌+◌, ◌<◌, ◌≤◌, ◌||◌, Bool, true, false, nat_eq, List, [], ◌∷◌, ◌++◌, length, get_or, take, drop, Option, None, Some, refl, ap, sym, ◌∙◌, arith, subst}
 use Rattle.std.specs.Prelude.{position}
 use Rattle.std.specs.List.{list_any, slice_set}
 use Rattle.std.proofs.lemmas.List.Folds.{list_any_at}
+use Rattle.std.proofs.lemmas.List.{append-nil, take_all}
+use Rattle.std.proofs.Math.ListN.{drop_of_length-le}
 use Rattle.std.proofs.lemmas.Grind.{common_steps}
 use Rattle.hprof_records.specs.declared.sub_record.SubRecord.{SubRecord}
 use Rattle.dump_graph.specs.Firsts.{IsApart}
 use Rattle.dump_graph.specs.Graph.{roots_it}
 use Rattle.dump_graph.specs.Tables.{root_id}
-use Rattle.dump_graph.proofs.Nodes.{roots-none, roots-some}
+use Rattle.dump_graph.proofs.Nodes.{roots-none, roots-some, take-next}
 use Rattle.dump_graph.proofs.Positions.{equal_from, nat_eq-same, position-at, position-none}
 
 or-false : (a : Bool) → a ≡ (a || false)
 or-false true = refl
 or-false false = refl
+
+list_any-push : {X : Type 0} (f : X → Bool) (xs : List X) (x : X) → list_any f (xs ++ x ∷ []) ≡ (list_any f xs || f x)
+list_any-push f [] x = by (f x)
+  where
+    by : (b : Bool) → (b || false) ≡ (false || b)
+    by true = refl
+    by false = refl
+list_any-push f (y ∷ xs) x = by (f y) (list_any-push f xs x)
+  where
+    by : (b : Bool) → list_any f (xs ++ x ∷ []) ≡ (list_any f xs || f x) → (b || list_any f (xs ++ x ∷ [])) ≡ ((b || list_any f xs) || f x)
+    by true rest = refl
+    by false rest = rest
 
 or-true : (a : Bool) → true ≡ (a || true)
 or-true true = refl
@@ -51,3 +65,15 @@ marks-known roots ids p r number k some found apart within same =
         let other : number ≢ k = λ same. absurd (cc (is, subst (λ z. nat_eq r (get_or ids z 0) ≡ true) same at.1)) in
         let kept : get_or (slice_set roots number true) k false ≡ get_or roots k false = grind (arith, common_steps, other) in
         kept ∙ (or-false (get_or roots k false) ∙ ap (λ b. get_or roots k false || b) (sym is))
+
+-- a list that is written back whole
+pub written-back : {X : Type 0} (new old : List X) (n : ℕ) → length new ≡ length old → n ≡ length old → take n (new ++ drop (length new) old) ≡ new
+written-back new old n same is =
+    let le : length old ≤ length new = omega arith in
+    ap (λ rest. take n (new ++ rest)) (drop_of_length-le old {i = length new} le) ∙ (ap (take n) (append-nil new) ∙ take_all n new (omega arith))
+
+-- one part more is gone over
+pub marks-more : (ids : List ℕ) (ps : List SubRecord) (i : ℕ) (p : SubRecord) (k : ℕ) (was is : Bool) → i < length ps → p ≡ get_or ps i p → was ≡ list_any (roots_it (get_or ids k 0)) (take i ps)
+    → is ≡ (was || roots_it (get_or ids k 0) p) → is ≡ list_any (roots_it (get_or ids k 0)) (take (i + 1) ps)
+marks-more ids ps i p k was is within part had more =
+    more ∙ (ap (λ b. b || roots_it (get_or ids k 0) p) had ∙ sym (ap (list_any (roots_it (get_or ids k 0))) (take-next ps i p within part) ∙ list_any-push (roots_it (get_or ids k 0)) (take i ps) p))

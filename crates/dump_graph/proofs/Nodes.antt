@@ -1,8 +1,8 @@
 -- The nodes and roots of a dump, part by part, and the graph that is made of the tables.
-use Rattle.std.proofs.Common.{◌≡◌, ℕ, zero, suc, ◌+◌, ◌<◌, ◌≤◌, ◌||◌, ◌&&◌, Bool, true, false, cond, not, nat_eq, List, [], ◌∷◌, ◌++◌, map, length, get_or, take, Option, None, Some, refl, ap, sym, ◌∙◌, arith, subst}
-use Rattle.std.specs.Prelude.{position, filter, All}
+use Rattle.std.proofs.Common.{◌≡◌, ℕ, zero, suc, ◌+◌, ◌<◌, ◌≤◌, ◌||◌, ◌&&◌, Bool, true, false, cond, not, nat_eq, List, [], ◌∷◌, ◌++◌, map, length, get_or, take, Option, None, Some, refl, ap, sym, ◌∙◌, arith, subst, length-append}
+use Rattle.std.specs.Prelude.{◌↔◌, position, filter, All, IsNone}
 use Rattle.std.specs.List.{cons_option, filter_map, list_any, zip}
-use Rattle.std.proofs.lemmas.List.{take_more, append-nil, get_or-map, length-map}
+use Rattle.std.proofs.lemmas.List.{take_more, append-nil, get_or-map, length-map, map-append}
 use Rattle.std.proofs.lemmas.List.Elements.{All-cons, filter-append, filter_map-append}
 use Rattle.hprof_records.specs.declared.sub_record.SubRecord.{SubRecord}
 use Rattle.hprof_records.specs.declared.sub_record.SubRecord.TheVariants.{Root, HeapInfo, ClassDump, Instance, ObjectArray, PrimitiveArray, NoData}
@@ -11,12 +11,12 @@ use Rattle.dump_graph.specs.Firsts.{firsts, with_first, IsApart}
 use Rattle.dump_graph.specs.Graph.{LeadsWithin, Node, graph, id_of, node_ids, node_of, nodes, roots_it, stands_for_node}
 use Rattle.dump_graph.specs.References.{instance_references, references}
 use Rattle.dump_graph.specs.Tables.{Known, known_of, known_references, made_node, numbers_of, root_id}
-use Rattle.dump_graph.proofs.Firsts.{find-firsts, firsts-push}
+use Rattle.dump_graph.proofs.Firsts.{added-known, added-new, find-firsts, firsts-push}
 use Rattle.dump_graph.proofs.Layouts.{codes-same}
 use Rattle.dump_graph.proofs.Positions.{equal_from, position-at}
 
 -- one part more
-take-next : (ps : List SubRecord) (i : ℕ) (p : SubRecord) → i < length ps → p ≡ get_or ps i p → take (i + 1) ps ≡ take i ps ++ p ∷ []
+pub take-next : (ps : List SubRecord) (i : ℕ) (p : SubRecord) → i < length ps → p ≡ get_or ps i p → take (i + 1) ps ≡ take i ps ++ p ∷ []
 take-next ps i p within is = take_more ps i p within ∙ ap (λ q. take i ps ++ q ∷ []) (sym is)
 
 -- is a class dump, or isn't
@@ -27,6 +27,24 @@ classes-more ps i p c within is one =
 pub classes-as_before : (ps : List SubRecord) (i : ℕ) (p : SubRecord) → i < length ps → p ≡ get_or ps i p → class_of p ≡ None → classes (take (i + 1) ps) ≡ classes (take i ps)
 classes-as_before ps i p within is none =
     ap classes (take-next ps i p within is) ∙ (filter_map-append class_of (take i ps) (p ∷ []) ∙ (ap (λ o. classes (take i ps) ++ cons_option o []) none ∙ append-nil (classes (take i ps))))
+
+-- the first class dumps, and how many class dumps there are
+pub firsts-more : (ps : List SubRecord) (i : ℕ) (p : SubRecord) (c : Class) (known known' : List Class) → i < length ps → p ≡ get_or ps i p → class_of p ≡ Some c → known ≡ firsts (λ c. c.id) (classes (take i ps))
+    → known' ≡ with_first (λ c. c.id) known c → known' ≡ firsts (λ c. c.id) (classes (take (i + 1) ps))
+firsts-more ps i p c known known' within is one had more =
+    more ∙ (ap (λ l. with_first (λ (c : Class). c.id) l c) had ∙ (sym (firsts-push (λ (c : Class). c.id) c (classes (take i ps))) ∙ ap (firsts (λ (c : Class). c.id)) (sym (classes-more ps i p c within is one))))
+
+pub dumps-more : (ps : List SubRecord) (i : ℕ) (p : SubRecord) (c : Class) → i < length ps → p ≡ get_or ps i p → class_of p ≡ Some c → length (classes (take (i + 1) ps)) ≡ length (classes (take i ps)) + 1
+dumps-more ps i p c within is one =
+    let more : length (classes (take (i + 1) ps)) ≡ length (classes (take i ps) ++ c ∷ []) = ap length (classes-more ps i p c within is one) in
+    omega (arith, more, length-append (classes (take i ps)) (c ∷ []))
+
+-- a list of references, by what they show
+pub shown : {X Y : Type 0} (f : X → Y) (xs : List X) (i : ℕ) (x : X) → i < length xs → x ≡ get_or xs i x → f x ≡ get_or (map f xs) i (f x)
+shown f xs i x within is = ap f is ∙ sym (get_or-map f xs i x (f x) within)
+
+pub shown-within : {X Y : Type 0} (f : X → Y) (xs : List X) (i : ℕ) → i < length xs → i < length (map f xs)
+shown-within f xs i within = omega (arith, within, length-map xs f)
 
 -- stands for a node, or doesn't
 pub nodes-more : (ps : List SubRecord) (i : ℕ) (p : SubRecord) → i < length ps → p ≡ get_or ps i p → stands_for_node p ≡ true → nodes (take (i + 1) ps) ≡ with_first id_of (nodes (take i ps)) p
@@ -39,6 +57,35 @@ pub nodes-as_before : (ps : List SubRecord) (i : ℕ) (p : SubRecord) → i < le
 nodes-as_before ps i p within is stands =
     ap nodes (take-next ps i p within is)
     ∙ ap (firsts id_of) (filter-append stands_for_node (take i ps) (p ∷ []) ∙ (ap (λ b. filter stands_for_node (take i ps) ++ cond b (p ∷ []) []) stands ∙ append-nil (filter stands_for_node (take i ps))))
+
+-- its identifier is new, or was known
+module _ (ps : List SubRecord) (i : ℕ) (p : SubRecord) (within : i < length ps) (is : p ≡ get_or ps i p) (stands : stands_for_node p ≡ true)
+    (fs : List SubRecord) (ids : List ℕ) (id : ℕ) (is_new : Bool) (firsts_are : fs ≡ nodes (take i ps)) (ids_are : ids ≡ node_ids (take i ps)) (id_is : id ≡ id_of p)
+    (told : (is_new ≡ true) ↔ IsNone (position (nat_eq id) ids)) where
+  ids-same : ids ≡ map id_of fs
+  ids-same = ids_are ∙ ap (map id_of) (sym firsts_are)
+
+  next-nodes : nodes (take (i + 1) ps) ≡ with_first id_of fs p
+  next-nodes = nodes-more ps i p within is stands ∙ ap (λ l. with_first id_of l p) (sym firsts_are)
+
+  new-nodes : is_new ≡ true → nodes (take (i + 1) ps) ≡ fs ++ p ∷ []
+  new-nodes new = next-nodes ∙ added-new id_of fs p ids id is_new ids-same id_is told new
+
+  old-nodes : is_new ≡ false → nodes (take (i + 1) ps) ≡ fs
+  old-nodes old = next-nodes ∙ added-known id_of fs p ids id is_new ids-same id_is told old
+
+  pub firsts-new : (fs' : List SubRecord) → is_new ≡ true → fs' ≡ fs ++ p ∷ [] → fs' ≡ nodes (take (i + 1) ps)
+  firsts-new fs' new more = more ∙ sym (new-nodes new)
+
+  pub ids-new : (ids' : List ℕ) → is_new ≡ true → ids' ≡ ids ++ id ∷ [] → ids' ≡ node_ids (take (i + 1) ps)
+  ids-new ids' new more =
+      more ∙ (ap (λ l. l ++ id ∷ []) ids-same ∙ (ap (λ k. map id_of fs ++ k ∷ []) id_is ∙ (sym (map-append id_of fs (p ∷ [])) ∙ ap (map id_of) (sym (new-nodes new)))))
+
+  pub firsts-old : is_new ≡ false → fs ≡ nodes (take (i + 1) ps)
+  firsts-old old = sym (old-nodes old)
+
+  pub ids-old : is_new ≡ false → ids ≡ node_ids (take (i + 1) ps)
+  ids-old old = ids-same ∙ ap (map id_of) (sym (old-nodes old))
 
 -- tells a root, or none
 pub roots-none : (id : ℕ) (p : SubRecord) → root_id p ≡ None → roots_it id p ≡ false

@@ -1,19 +1,20 @@
 -- The reading of an instance's values, class by class upwards.
-use Rattle.std.proofs.Common.{◌≡◌, ℕ, zero, suc, ◌+◌, ◌-◌, ◌<◌, ◌≤◌, Bool, true, false, nat_eq, List, [], ◌∷◌, ◌++◌, drop, length, Option, None, Some, refl, ap, sym, ◌∙◌, arith, subst, append_assoc, length-drop}
+use Rattle.std.proofs.Common.{◌≡◌, ℕ, zero, suc, ◌+◌, ◌-◌, ◌<◌, ◌≤◌, Bool, true, false, cond, nat_eq, List, [], ◌∷◌, ◌++◌, drop, length, Option, None, Some, option_map, refl, ap, sym, ◌∙◌, arith, subst, append_assoc, length-drop}
 use Rattle.std.specs.Prelude.{sum_by}
 use Rattle.std.proofs.lemmas.List.{append-nil}
 use Rattle.std.proofs.lemmas.List.Sums.{sum_by-append}
 use Rattle.std.proofs.lemmas.Grind.{common_steps}
 use Rattle.hprof_records.specs.Types.{value_bytes}
-use Rattle.dump_graph.specs.Classes.{Class}
+use Rattle.dump_graph.specs.Classes.{Class, codes_within}
 use Rattle.dump_graph.specs.Climbing.{climb, gathered, join, join_at, own_codes, step}
-use Rattle.dump_graph.specs.References.{references_in}
+use Rattle.dump_graph.specs.ClassTable.{laid_out}
+use Rattle.dump_graph.specs.References.{instance_references, references_in}
 use Rattle.dump_graph.specs.Reading.{HasRead, IsLeft}
 use Rattle.dump_graph.specs.declared.climb.Climb.{Climb}
 use Rattle.dump_graph.specs.declared.climb.Up.{Up}
 use Rattle.dump_graph.specs.declared.climb.Up.TheVariants.{Top, Above, Lost}
 use Rattle.dump_graph.proofs.Climbs.{climb-more}
-use Rattle.dump_graph.proofs.Layouts.{GathersBy, gathers}
+use Rattle.dump_graph.proofs.Layouts.{GathersBy, codes-by-climb, gathers}
 use Rattle.dump_graph.proofs.Values.{drop-plus, references-append}
 
 -- more steps than to the top lead no further
@@ -117,3 +118,21 @@ stops-short known dumps fuel n at all codes bytes rest found found' (left, (is, 
     let split : HasRead all (codes ++ onward.0) bytes found rest found' = subst (λ l. HasRead all l bytes found rest found') (onward.1.0 ∙ ap (λ l. l ++ onward.0) (sym own)) read in
     let more = reads-short all codes onward.0 bytes found rest found' [] [] split short in
     grind (arith, common_steps, more)
+
+-- the references of an instance whose class has no layout, or of one whose values have its size, or of another one
+pub laid-none : (known : List Class) (dumps id : ℕ) (bytes : List ℕ) → laid_out known dumps id ≡ None → [] ≡ instance_references (codes_within known dumps id) bytes
+laid-none known dumps id bytes none =
+    sym (ap (λ o. instance_references o bytes) (codes-by-climb known dumps id ∙ ap (option_map (gathered known dumps)) none))
+
+module _ (known : List Class) (dumps id n : ℕ) (bytes : List ℕ) (fits : Bool) (laid : laid_out known dumps id ≡ Some n)
+    (told : fits ≡ nat_eq (sum_by value_bytes (gathered known dumps n)) (length bytes)) where
+  by-size : instance_references (codes_within known dumps id) bytes ≡ cond fits (references_in (gathered known dumps n) bytes) []
+  by-size =
+      ap (λ o. instance_references o bytes) (codes-by-climb known dumps id ∙ ap (option_map (gathered known dumps)) laid)
+      ∙ ap (λ b. cond b (references_in (gathered known dumps n) bytes) []) (sym told)
+
+  pub laid-fits : (found : List ℕ) → fits ≡ true → found ≡ references_in (gathered known dumps n) bytes → found ≡ instance_references (codes_within known dumps id) bytes
+  laid-fits found yes is = is ∙ sym (by-size ∙ ap (λ b. cond b (references_in (gathered known dumps n) bytes) []) yes)
+
+  pub laid-unfit : fits ≡ false → [] ≡ instance_references (codes_within known dumps id) bytes
+  laid-unfit no = sym (by-size ∙ ap (λ b. cond b (references_in (gathered known dumps n) bytes) []) no)
