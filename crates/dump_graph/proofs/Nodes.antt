@@ -2,7 +2,8 @@
 use Rattle.std.proofs.Common.{◌≡◌, ℕ, zero, suc, ◌+◌, ◌<◌, ◌≤◌, ◌||◌, ◌&&◌, Bool, true, false, cond, not, nat_eq, List, [], ◌∷◌, ◌++◌, map, length, get_or, take, Option, None, Some, refl, ap, sym, ◌∙◌, arith, subst, length-append}
 use Rattle.std.specs.Prelude.{◌↔◌, position, filter, All, IsNone}
 use Rattle.std.specs.List.{cons_option, filter_map, list_any, zip}
-use Rattle.std.proofs.lemmas.List.{take_more, append-nil, get_or-map, length-map, map-append}
+use Rattle.std.proofs.lemmas.List.{take_all, take_more, append-nil, get_or-map, length-map, map-append}
+use Rattle.std.proofs.lemmas.Slice.Zip.{get_or-zip, length-zip}
 use Rattle.std.proofs.lemmas.List.Elements.{All-cons, filter-append, filter_map-append}
 use Rattle.hprof_records.specs.declared.sub_record.SubRecord.{SubRecord}
 use Rattle.hprof_records.specs.declared.sub_record.SubRecord.TheVariants.{Root, HeapInfo, ClassDump, Instance, ObjectArray, PrimitiveArray, NoData}
@@ -147,6 +148,19 @@ map-zip made node (x ∷ xs) [] same each = absurd (omega (arith, same))
 map-zip made node (x ∷ xs) (y ∷ ys) same each =
     ap (λ n. n ∷ map (λ x. made x.0 x.1) (zip xs ys)) (each 0 y (omega arith))
     ∙ ap (λ ns. node y ∷ ns) (map-zip made node xs ys (omega (arith, same)) (λ k d within. each (suc k) d (omega (arith, within))))
+
+-- one pair more, and all
+pub zip-more : {A B C : Type 0} (f : A × B → C) (xs : List A) (ys : List B) (i : ℕ) (a : A) (b : B) → length xs ≡ length ys → i < length ys → b ≡ get_or ys i b
+    → map f (take (i + 1) (zip xs ys)) ≡ map f (take i (zip xs ys)) ++ f (get_or xs i a, b) ∷ []
+zip-more f xs ys i a b same within is =
+    let both : i < length (zip xs ys) = omega (arith, length-zip xs ys, same, within) in
+    let first : i < length xs = omega (arith, same, within) in
+    ap (map f) (take_more (zip xs ys) i (a, b) both)
+    ∙ (map-append f (take i (zip xs ys)) (get_or (zip xs ys) i (a, b) ∷ [])
+    ∙ ap (λ p. map f (take i (zip xs ys)) ++ f p ∷ []) (get_or-zip xs ys i (a, b) first within ∙ ap (λ y. (get_or xs i a, y)) (sym is)))
+
+pub zip-all : {A B : Type 0} (xs : List A) (ys : List B) (i : ℕ) → length ys ≤ i → take i (zip xs ys) ≡ zip xs ys
+zip-all xs ys i all = take_all i (zip xs ys) (omega (arith, length-zip xs ys, all))
 
 -- the graph is made of the tables
 pub graph-made : (ps : List SubRecord) (roots : List Bool) → length roots ≡ length (nodes ps)

@@ -1,12 +1,12 @@
 -- The reading of an instance's values, class by class upwards.
-use Rattle.std.proofs.Common.{◌≡◌, ℕ, zero, suc, ◌+◌, ◌-◌, ◌<◌, ◌≤◌, Bool, true, false, cond, nat_eq, List, [], ◌∷◌, ◌++◌, drop, length, Option, None, Some, option_map, refl, ap, sym, ◌∙◌, arith, subst, append_assoc, length-drop}
+use Rattle.std.proofs.Common.{◌≡◌, ℕ, zero, suc, ◌+◌, ◌-◌, ◌<◌, ◌≤◌, Bool, true, false, cond, nat_eq, List, [], ◌∷◌, ◌++◌, drop, length, get_or, Option, None, Some, option_map, refl, ap, sym, ◌∙◌, arith, subst, append_assoc, length-drop}
 use Rattle.std.specs.Prelude.{sum_by}
-use Rattle.std.proofs.lemmas.List.{append-nil}
+use Rattle.std.proofs.lemmas.List.{append-nil, get_or-map, get_or_default}
 use Rattle.std.proofs.lemmas.List.Sums.{sum_by-append}
 use Rattle.std.proofs.lemmas.Grind.{common_steps}
 use Rattle.hprof_records.specs.Types.{value_bytes}
 use Rattle.dump_graph.specs.Classes.{Class, codes_within}
-use Rattle.dump_graph.specs.Climbing.{climb, gathered, join, join_at, own_codes, step}
+use Rattle.dump_graph.specs.Climbing.{AreClimbs, climb, gathered, join, join_at, lost, own_codes, step}
 use Rattle.dump_graph.specs.ClassTable.{laid_out}
 use Rattle.dump_graph.specs.References.{instance_references, references_in}
 use Rattle.dump_graph.specs.Reading.{HasRead, IsLeft}
@@ -74,6 +74,22 @@ left-next known n fuel dumps left (s, (below, within, top, is)) few =
     by (Some d) (t, (less, inside, up, more)) first =
         (gathered known t d, (is ∙ more, subst (λ o. IsLeft known o (fuel - 1) (gathered known t d)) (sym first) (t, (omega (arith, less, below), inside, up, refl))))
 
+-- the class whose fields come next is known, and the table has its codes and its climb
+pub left-within : (known : List Class) (at : Option ℕ) (n fuel : ℕ) (left : List ℕ) → IsLeft known at fuel left → at ≡ Some n → n < length known
+left-within known None n fuel left is at_n = absurd cc
+left-within known (Some m) n fuel left (s, (below, within, top, is)) at_n = let same : m ≡ n = cc in subst (λ k. k < length known) same within
+
+pub codes-at : (known known' : List Class) (n : ℕ) (c : Class) → known ≡ known' → n < length known' → c ≡ get_or known n c → c.codes ≡ own_codes known' n
+codes-at known known' n c same within is =
+    let inside : n < length known = subst (λ (l : List Class). n < length l) (sym same) within in
+    ap (λ (x : Class). x.codes) is ∙ (sym (get_or-map (λ (x : Class). x.codes) known n c [] inside) ∙ ap (λ l. own_codes l n) same)
+
+pub climb-at : (known known' : List Class) (dumps dumps' : ℕ) (climbs : List Climb) (n : ℕ) (one : Climb) → known ≡ known' → dumps ≡ dumps' → AreClimbs known dumps climbs → n < length known' → one ≡ get_or climbs n one
+    → one ≡ climb known' dumps' n
+climb-at known known' dumps dumps' climbs n one same same' are within is =
+    let inside : n < length known = subst (λ (l : List Class). n < length l) (sym same) within in
+    is ∙ (get_or_default climbs n one lost (omega (arith, are.0, inside)) ∙ (are.1 n inside ∙ (ap (λ l. climb l dumps n) same ∙ ap (λ d. climb known' d n) same')))
+
 -- nothing is left after the last step
 pub left-none : (known : List Class) (o : Option ℕ) (left : List ℕ) → IsLeft known o 0 left → left ≡ []
 left-none known None left is = is
@@ -99,15 +115,15 @@ module _ (all bytes found rest found' : List ℕ) (read : HasRead all [] bytes f
       grind (arith, common_steps, same, long, read.within)
 
 -- a class's fields are read, and those of the classes above it are left
-pub reads-on : (known : List Class) (dumps fuel n : ℕ) (at : Option ℕ) (all codes bytes rest found found' found'' after : List ℕ) (more : Option ℕ)
+pub reads-on : (known : List Class) (dumps fuel n : ℕ) (at : Option ℕ) (all codes bytes rest found found' found'' after : List ℕ) (more : Option ℕ) (fuel' : ℕ)
     → (left : List ℕ) × (IsLeft known at fuel left × HasRead all left bytes found rest found') → at ≡ Some n → fuel ≤ dumps → codes ≡ own_codes known n → more ≡ (climb known dumps n).fielded
-    → sum_by value_bytes codes ≤ length rest → after ≡ drop (sum_by value_bytes codes) rest → found'' ≡ found' ++ references_in codes rest
-    → (left : List ℕ) × (IsLeft known more (fuel - 1) left × HasRead all left bytes found after found'')
-reads-on known dumps fuel n at all codes bytes rest found found' found'' after more (left, (is, read)) at_n few own next fits after_is also =
+    → sum_by value_bytes codes ≤ length rest → after ≡ drop (sum_by value_bytes codes) rest → found'' ≡ found' ++ references_in codes rest → fuel' ≡ fuel - 1
+    → (left : List ℕ) × (IsLeft known more fuel' left × HasRead all left bytes found after found'')
+reads-on known dumps fuel n at all codes bytes rest found found' found'' after more fuel' (left, (is, read)) at_n few own next fits after_is also less =
     let here : IsLeft known (Some n) fuel left = subst (λ o. IsLeft known o fuel left) at_n is in
     let onward = left-next known n fuel dumps left here few in
     let split : HasRead all (codes ++ onward.0) bytes found rest found' = subst (λ l. HasRead all l bytes found rest found') (onward.1.0 ∙ ap (λ l. l ++ onward.0) (sym own)) read in
-    (onward.0, (subst (λ o. IsLeft known o (fuel - 1) onward.0) (sym next) onward.1.1, reads-own all codes onward.0 bytes found rest found' after found'' split fits after_is also))
+    (onward.0, (subst (λ k. IsLeft known more k onward.0) (sym less) (subst (λ o. IsLeft known o (fuel - 1) onward.0) (sym next) onward.1.1), reads-own all codes onward.0 bytes found rest found' after found'' split fits after_is also))
 
 pub stops-short : (known : List Class) (dumps fuel n : ℕ) (at : Option ℕ) (all codes bytes rest found found' : List ℕ)
     → (left : List ℕ) × (IsLeft known at fuel left × HasRead all left bytes found rest found') → at ≡ Some n → fuel ≤ dumps → codes ≡ own_codes known n
@@ -132,7 +148,7 @@ module _ (known : List Class) (dumps id n : ℕ) (bytes : List ℕ) (fits : Bool
       ∙ ap (λ b. cond b (references_in (gathered known dumps n) bytes) []) (sym told)
 
   pub laid-fits : (found : List ℕ) → fits ≡ true → found ≡ references_in (gathered known dumps n) bytes → found ≡ instance_references (codes_within known dumps id) bytes
-  laid-fits found yes is = is ∙ sym (by-size ∙ ap (λ b. cond b (references_in (gathered known dumps n) bytes) []) yes)
+  laid-fits found fit is = is ∙ sym (by-size ∙ ap (λ b. cond b (references_in (gathered known dumps n) bytes) []) fit)
 
   pub laid-unfit : fits ≡ false → [] ≡ instance_references (codes_within known dumps id) bytes
-  laid-unfit no = sym (by-size ∙ ap (λ b. cond b (references_in (gathered known dumps n) bytes) []) no)
+  laid-unfit unfit = sym (by-size ∙ ap (λ b. cond b (references_in (gathered known dumps n) bytes) []) unfit)

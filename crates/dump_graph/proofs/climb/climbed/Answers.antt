@@ -10,13 +10,13 @@ pub all_joined-requires : goal.all_joined-requires
 all_joined-requires c =
     let had = c.loop-left.invariant in
     rw (c.deref.ensures.value, c.deref-then-left-eq1.ensures.value)
-    (climbs-within c.args.known.now had.0 (length c.loop-left.power.items) c.loop-left.climbs.items had.1.1.0 had.1.1.1.0.0)
+    (climbs-within c.args.known.now had.0 (length c.loop-left.power.items) c.loop-left.climbs.items had.2.0 had.2.1.0)
 
 pub all_joined-requires-in-loop-left : goal.all_joined-requires-in-loop-left
 all_joined-requires-in-loop-left c =
     let had = c.loop-left.invariant in
     rw (c.deref-in-loop-left.ensures.value, c.deref-in-loop-left-2.ensures.value)
-    (climbs-within c.args.known.now had.1.0 (length c.loop-left.power.items) c.loop-left.power.items had.1.1.1.0 had.1.1.1.0.0)
+    (climbs-within c.args.known.now had.1 (length c.loop-left.power.items) c.loop-left.power.items had.2.1 had.2.1.0)
 
 pub loop-left-preserved : goal.loop-left-preserved
 loop-left-preserved c =

@@ -1,12 +1,21 @@
-use Rattle.std.proofs.Common.{◌≡◌, sym, ◌∙◌}
+use Rattle.std.proofs.Common.{◌≡◌, ◌++◌, ap, sym, ◌∙◌}
+use Rattle.dump_graph.specs.Climbing.{gathered}
+use Rattle.dump_graph.specs.References.{references_in}
 use Rattle.dump_graph.proofs.ReadAll.{laid-fits, laid-none, laid-unfit}
 use Rattle.dump_graph.proofs.classes.Classes.references.Goals as goal
 
 pub returns-in_default : goal.returns-in_default
-returns-in_default c = laid-none c.args.self.now.first c.args.self.now.dumps c.args.class c.args.bytes.now (sym c.laid_out.ensures ∙ c.in_default.is)
+returns-in_default c = c.new.ensures.items ∙ laid-none c.args.self.now.first c.args.self.now.dumps c.args.class c.args.bytes.now (sym c.laid_out.ensures ∙ c.in_default.is)
 
 pub returns-then-branch : goal.returns-then-branch
-returns-then-branch c = ?
+returns-then-branch c =
+    let known = c.args.self.now in
+    let refers = references_in (gathered known.first known.dumps c.in-Some.number) c.args.bytes.now in
+    laid-fits known.first known.dumps c.args.class c.in-Some.number c.args.bytes.now c.in_ok-read_values.field-0 (sym c.laid_out.ensures ∙ c.in-Some.is) c.in_ok-read_values.ensures.fits
+    c.read_values.new.found.items c.if-branch.true (c.in_ok-read_values.ensures.found c.if-branch.true ∙ ap (λ l. l ++ refers) c.new-found.ensures.items)
 
 pub returns-else-branch : goal.returns-else-branch
-returns-else-branch c = ?
+returns-else-branch c =
+    let known = c.args.self.now in
+    c.new-else-branch.ensures.items
+    ∙ laid-unfit known.first known.dumps c.args.class c.in-Some.number c.args.bytes.now c.in_ok-read_values.field-0 (sym c.laid_out.ensures ∙ c.in-Some.is) c.in_ok-read_values.ensures.fits c.if-branch.false
