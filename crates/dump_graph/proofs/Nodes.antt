@@ -171,6 +171,19 @@ graph-made ps roots same marked =
     (λ k d within. made-same ps (get_or roots k false) (get_or (nodes ps) k d)
     (marked k within ∙ ap (λ id. list_any (roots_it id) ps) (get_or-map id_of (nodes ps) k d 0 within)))
 
+pub graph-of : (ps : List SubRecord) (known : Known) (ids : List ℕ) (roots : List Bool) (parts : List SubRecord) (made : List Node)
+    → known ≡ known_of (classes ps) → ids ≡ node_ids ps → parts ≡ nodes ps → length roots ≡ length parts
+    → ((k : ℕ) → k < length parts → get_or roots k false ≡ list_any (roots_it (get_or ids k 0)) ps)
+    → made ≡ map (λ x. made_node known ids x.0 x.1) (zip roots parts) → made ≡ graph ps
+graph-of ps known ids roots parts made known_is ids_is parts_are same marked is =
+    let all : Known = known_of (classes ps) in
+    is
+    ∙ (ap (λ k. map (λ (x : Bool × SubRecord). made_node k ids x.0 x.1) (zip roots parts)) known_is
+    ∙ (ap (λ i. map (λ (x : Bool × SubRecord). made_node all i x.0 x.1) (zip roots parts)) ids_is
+    ∙ (ap (λ l. map (λ (x : Bool × SubRecord). made_node all (node_ids ps) x.0 x.1) (zip roots l)) parts_are
+    ∙ graph-made ps roots (same ∙ ap length parts_are)
+    (λ k within. marked k (subst (λ (l : List SubRecord). k < length l) (sym parts_are) within) ∙ ap (λ i. list_any (roots_it (get_or i k 0)) ps) ids_is))))
+
 -- each target is a node
 targets-within : (ids refers : List ℕ) → All (λ t. t < length ids) (numbers_of ids refers)
 targets-within ids [] = λ k d within. absurd (omega (arith, within))
