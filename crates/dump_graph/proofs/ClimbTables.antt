@@ -27,9 +27,10 @@ join-standing one = by one.next
 
 -- those of no steps, and of one
 pub climbs-standing : (known : List Class) → AreClimbs known 0 (map standing (range_with_len 0 (length known)))
-climbs-standing known =
-    (length-map (range_with_len 0 (length known)) standing ∙ length-range_with_len 0 (length known),
-    λ k within. get_or-map-range_with_len standing 0 (length known) k k lost within (omega arith))
+climbs-standing known = (
+  length-map (range_with_len 0 (length known)) standing ∙ length-range_with_len 0 (length known),
+  λ k within. get_or-map-range_with_len standing 0 (length known) k k lost within (omega arith),
+)
 
 pub climbs-steps : (known : List Class) → AreClimbs known 1 (map (step_from known) known)
 climbs-steps known = (length-map known (step_from known), λ k within. sym (join-standing (step known k)))
@@ -51,13 +52,14 @@ climbs-within known s count xs are is k d within =
 
 -- climbs and others behind them
 pub climbs-joined : (known : List Class) (s t : ℕ) (xs ys : List Climb) → AreClimbs known s xs → AreClimbs known t ys → AreClimbs known (s + t) (map (join_with ys) xs)
-climbs-joined known s t xs ys are more =
-    (length-map xs (join_with ys) ∙ are.0,
-    λ k within.
-    get_or-map (join_with ys) xs k lost lost (omega (arith, are.0, within))
-    ∙ (ap (join_with ys) (are.1 k within)
-    ∙ (join-same (length known) (climb known s k) (λ n. get_or ys n lost) (climb known t) (climb-within known s k within) more.1
-    ∙ sym (climb-more known s t k))))
+climbs-joined known s t xs ys are more = (
+  length-map xs (join_with ys) ∙ are.0,
+  λ k within.
+      get_or-map (join_with ys) xs k lost lost (omega (arith, are.0, within))
+      ∙ (ap (join_with ys) (are.1 k within)
+      ∙ (join-same (length known) (climb known s k) (λ n. get_or ys n lost) (climb known t) (climb-within known s k within) more.1
+      ∙ sym (climb-more known s t k))),
+)
 
 -- how climbing begins, goes on and ends
 pub climbs-begin : (known : List Class) (steps : ℕ) (climbs power : List Climb) → climbs ≡ map standing (range_with_len 0 (length known)) → power ≡ map (step_from known) known → HasClimbed known steps steps climbs power
@@ -78,9 +80,15 @@ even-steps done left half each steps is had =
 
 pub climbs-odd : (known : List Class) (steps left half : ℕ) (climbs power climbs' power' : List Climb) → HasClimbed known steps left climbs power → left ≡ half * 2 + 1
     → climbs' ≡ map (join_with power) climbs → power' ≡ map (join_with power) power → HasClimbed known steps half climbs' power'
-climbs-odd known steps left half climbs power climbs' power' (done, each, (a, b, had)) odd is also =
-    (done + each, each + each, (subst (AreClimbs known (done + each)) (sym is) (climbs-joined known done each climbs power a b),
-    subst (AreClimbs known (each + each)) (sym also) (climbs-joined known each each power power b b), odd-steps done left half each steps odd had))
+climbs-odd known steps left half climbs power climbs' power' (done, each, (a, b, had)) odd is also = (
+  done + each,
+  each + each,
+  (
+    subst (AreClimbs known (done + each)) (sym is) (climbs-joined known done each climbs power a b),
+    subst (AreClimbs known (each + each)) (sym also) (climbs-joined known each each power power b b),
+    odd-steps done left half each steps odd had,
+  ),
+)
 
 pub climbs-even : (known : List Class) (steps left half : ℕ) (climbs power power' : List Climb) → HasClimbed known steps left climbs power → left ≡ half * 2
     → power' ≡ map (join_with power) power → HasClimbed known steps half climbs power'

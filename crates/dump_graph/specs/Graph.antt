@@ -61,7 +61,8 @@ abbrev pub node_of : List SubRecord → SubRecord → Node
 node_of ps p = record {
   id = id_of p;
   is_root = list_any (roots_it (id_of p)) ps;
-  targets = filter_map (λ id. position (nat_eq id) (node_ids ps)) (references (classes ps) p) }
+  targets = filter_map (λ id. position (nat_eq id) (node_ids ps)) (references (classes ps) p);
+}
 
 -- the graph of a dump's parts
 abbrev pub graph : List SubRecord → List Node

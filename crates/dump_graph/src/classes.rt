@@ -44,7 +44,10 @@ fn class_of(alloc: Global, part: &SubRecord) -> Result<Option<KnownClass>, Alloc
 {
     match part {
         SubRecord::ClassDump {
-            id, parent, fields, ..
+            id,
+            parent,
+            fields,
+            ..
         } => {
             let codes = codes_of(alloc, fields)?;
             Ok(Some(KnownClass {

@@ -66,10 +66,7 @@ pub(crate) fn read_fields<'a>(
 }
 
 /// The references among static fields.
-fn static_references(
-    alloc: Global,
-    statics: &[(u32, u8, Bytes)],
-) -> Result<Vec<u32>, AllocError>
+fn static_references(alloc: Global, statics: &[(u32, u8, Bytes)]) -> Result<Vec<u32>, AllocError>
     ensures { IfOk result (λ r. r.items ≡ filter_map (λ s. reference s.1 s.2) statics.now) }
 {
     let mut found = Vec::new(alloc);

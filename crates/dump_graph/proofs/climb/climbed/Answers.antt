@@ -25,8 +25,8 @@ loop-left-preserved c =
     let power = rw (c.deref-in-loop-left.ensures.value, c.deref-in-loop-left-2.ensures.value) at c.in_ok-power-2.ensures in
     elim c.if-left-eq1.branch [
       | then-left-eq1+in_ok-climbs-2 w ↦
-        let climbs = rw (w.deref.ensures.value, w.deref-then-left-eq1.ensures.value) at w.in_ok-climbs-2.ensures in
-        rw w.climbs-is (climbs-odd known c.args.steps left (left / 2) c.loop-left.climbs.items c.loop-left.power.items w.in_ok-climbs-2.climbs.items c.in_ok-power-2.power.items c.loop-left.invariant (omega (arith, w.if-left-eq1.true)) climbs power)
+          let climbs = rw (w.deref.ensures.value, w.deref-then-left-eq1.ensures.value) at w.in_ok-climbs-2.ensures in
+          rw w.climbs-is (climbs-odd known c.args.steps left (left / 2) c.loop-left.climbs.items c.loop-left.power.items w.in_ok-climbs-2.climbs.items c.in_ok-power-2.power.items c.loop-left.invariant (omega (arith, w.if-left-eq1.true)) climbs power)
       | else-left-eq1 w ↦ rw w.climbs-is (climbs-even known c.args.steps left (left / 2) c.loop-left.climbs.items c.loop-left.power.items c.in_ok-power-2.power.items c.loop-left.invariant (omega (arith, w.if-left-eq1.false)) power)
     ]
 

@@ -22,25 +22,25 @@ loop-part-preserved c =
     let is : p ≡ get_or ps i p = shown now c.args.parts.now i c.part-item.result c.loop-part-test.true c.part-item.is in
     elim c.if-stands_for_node.branch [
       | then-stands_for_node+in_ok-add+then-branch+in_ok-push w ↦
-        let stands = sym c.stands_for_node.ensures ∙ w.if-stands_for_node.true in
-        let pushed : map now w.push.new.self.items ≡ fs ++ p ∷ [] = ap (map now) w.in_ok-push.ensures.items ∙ map-append now c.loop-part.firsts.items (c.part-item.result ∷ []) in
-        record {
-          firsts = rw w.firsts-is (firsts-new ps i p within is stands fs c.loop-part.numbers w.id_of.result w.in_ok-add.field-0 had.firsts had.numbers w.id_of.ensures w.in_ok-add.ensures.new (map now w.push.new.self.items) w.if-branch.true pushed);
-          numbers = rw w.numbers-is (ids-new ps i p within is stands fs c.loop-part.numbers w.id_of.result w.in_ok-add.field-0 had.firsts had.numbers w.id_of.ensures w.in_ok-add.ensures.new w.add.new.self w.if-branch.true (w.in_ok-add.ensures.added w.if-branch.true));
-          apart = subst (λ (l : List ℕ). IsApart l) (sym (w.numbers-is ∙ w.in_ok-add.ensures.added w.if-branch.true)) (apart-push c.loop-part.numbers w.id_of.result had.apart (none-is (position (nat_eq w.id_of.result) c.loop-part.numbers) (w.in_ok-add.ensures.new.0 w.if-branch.true)));
-        }
+          let stands = sym c.stands_for_node.ensures ∙ w.if-stands_for_node.true in
+          let pushed : map now w.push.new.self.items ≡ fs ++ p ∷ [] = ap (map now) w.in_ok-push.ensures.items ∙ map-append now c.loop-part.firsts.items (c.part-item.result ∷ []) in
+          record {
+            firsts = rw w.firsts-is (firsts-new ps i p within is stands fs c.loop-part.numbers w.id_of.result w.in_ok-add.field-0 had.firsts had.numbers w.id_of.ensures w.in_ok-add.ensures.new (map now w.push.new.self.items) w.if-branch.true pushed);
+            numbers = rw w.numbers-is (ids-new ps i p within is stands fs c.loop-part.numbers w.id_of.result w.in_ok-add.field-0 had.firsts had.numbers w.id_of.ensures w.in_ok-add.ensures.new w.add.new.self w.if-branch.true (w.in_ok-add.ensures.added w.if-branch.true));
+            apart = subst (λ (l : List ℕ). IsApart l) (sym (w.numbers-is ∙ w.in_ok-add.ensures.added w.if-branch.true)) (apart-push c.loop-part.numbers w.id_of.result had.apart (none-is (position (nat_eq w.id_of.result) c.loop-part.numbers) (w.in_ok-add.ensures.new.0 w.if-branch.true)));
+          }
       | then-stands_for_node+in_ok-add+else-branch w ↦
-        let stands = sym c.stands_for_node.ensures ∙ w.if-stands_for_node.true in
-        record {
-          firsts = rw w.firsts-is (firsts-old ps i p within is stands fs c.loop-part.numbers w.id_of.result w.in_ok-add.field-0 had.firsts had.numbers w.id_of.ensures w.in_ok-add.ensures.new w.if-branch.false);
-          numbers = w.numbers-is ∙ (w.in_ok-add.ensures.known w.if-branch.false ∙ ids-old ps i p within is stands fs c.loop-part.numbers w.id_of.result w.in_ok-add.field-0 had.firsts had.numbers w.id_of.ensures w.in_ok-add.ensures.new w.if-branch.false);
-          apart = subst (λ (l : List ℕ). IsApart l) (sym (w.numbers-is ∙ w.in_ok-add.ensures.known w.if-branch.false)) had.apart;
-        }
+          let stands = sym c.stands_for_node.ensures ∙ w.if-stands_for_node.true in
+          record {
+            firsts = rw w.firsts-is (firsts-old ps i p within is stands fs c.loop-part.numbers w.id_of.result w.in_ok-add.field-0 had.firsts had.numbers w.id_of.ensures w.in_ok-add.ensures.new w.if-branch.false);
+            numbers = w.numbers-is ∙ (w.in_ok-add.ensures.known w.if-branch.false ∙ ids-old ps i p within is stands fs c.loop-part.numbers w.id_of.result w.in_ok-add.field-0 had.firsts had.numbers w.id_of.ensures w.in_ok-add.ensures.new w.if-branch.false);
+            apart = subst (λ (l : List ℕ). IsApart l) (sym (w.numbers-is ∙ w.in_ok-add.ensures.known w.if-branch.false)) had.apart;
+          }
       | else-stands_for_node w ↦
-        let same : nodes (take (i + 1) ps) ≡ nodes (take i ps) = nodes-as_before ps i p within is (sym c.stands_for_node.ensures ∙ w.if-stands_for_node.false) in
-        record {
-          firsts = rw w.firsts-is (had.firsts ∙ sym same);
-          numbers = w.numbers-is ∙ (had.numbers ∙ ap (map id_of) (sym same));
-          apart = subst (λ (l : List ℕ). IsApart l) (sym w.numbers-is) had.apart;
-        }
+          let same : nodes (take (i + 1) ps) ≡ nodes (take i ps) = nodes-as_before ps i p within is (sym c.stands_for_node.ensures ∙ w.if-stands_for_node.false) in
+          record {
+            firsts = rw w.firsts-is (had.firsts ∙ sym same);
+            numbers = w.numbers-is ∙ (had.numbers ∙ ap (map id_of) (sym same));
+            apart = subst (λ (l : List ℕ). IsApart l) (sym w.numbers-is) had.apart;
+          }
     ]
