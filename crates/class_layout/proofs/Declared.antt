@@ -103,12 +103,12 @@ kind-declared cs k f at formed there found =
     ap (λ (p : FieldAt). p.kind) (same_Some at own.0 (sym found ∙ own.1)) ∙ own.2
 
 -- fields are placed behind those that are laid out
-placed-behind : (weak : Bool) (laid : Laid) (fs : List FieldDecl) → (own : List Placed) × ((place_fields weak laid fs).fields ≡ laid.fields ++ own) × (length own ≡ length fs)
-placed-behind weak laid [] = ([], sym (append-nil laid.fields), refl)
+placed-behind : (weak : Bool) (laid : Laid) (fs : List FieldDecl) → (own : List Placed) × ((place_fields weak laid fs).fields ≡ laid.fields ++ own) × (length own ≡ length fs) × (map (λ x. x.name) own ≡ map (λ f. f.name) fs)
+placed-behind weak laid [] = ([], sym (append-nil laid.fields), refl, refl)
 placed-behind weak laid (f ∷ fs) =
     let x : Placed = placed_at weak f (next_multiple (kind_bytes f.kind) laid.end) in
     let rest = placed-behind weak (place_field weak laid f) fs in
-    (x ∷ rest.0, rest.1 ∙ append_assoc laid.fields (x ∷ []) rest.0, ap suc rest.2)
+    (x ∷ rest.0, rest.1 ∙ append_assoc laid.fields (x ∷ []) rest.0, ap suc rest.2, ap (λ ns. f.name ∷ ns) rest.3)
 
 -- the class of a number, by its superclass
 behind : (cs : List Class) (k p : ℕ) → slice_get (map (λ c. c.parent) cs) k ≡ Some (Some p) → (c : Class) × (slice_get cs k ≡ Some c) × (c.parent ≡ Some p)
@@ -121,15 +121,21 @@ own-count [] k c e = absurd (none-some c e)
 own-count (d ∷ cs) zero c e = ap (λ (x : Class). x.fields) (same_Some d c e)
 own-count (d ∷ cs) (suc k) c e = own-count cs k c e
 
--- the superclass's fields come first, in order, and then as many as the class declares
+-- the superclass's fields come first, in order, and then those that the class declares, in the order of the layout
 pub superclass-first : (cs : List Class) (k p : ℕ) → IsClassList cs → slice_get (map (λ c. c.parent) cs) k ≡ Some (Some p)
     → (own : List Placed) × ((layout_of cs k).fields ≡ (layout_of cs p).fields ++ own) × (length own ≡ length (own_fields_of cs k))
+    × (map (λ x. x.name) own ≡ map (λ f. f.name) (in_layout_order (own_fields_of cs k)))
 superclass-first cs k p formed e =
     let c = behind cs k p e in
     let rest = placed-behind (nat_eq k 1) (layout_of cs p) (in_layout_order c.0.fields) in
     let laid : layout_of cs k ≡ lay_out (nat_eq k 1) (layout_of cs p) c.0.fields =
     layout_of-class cs k c.0 formed c.1 ∙ ap (λ (q : Option ℕ). lay_out (nat_eq k 1) (superclass_layout cs q) c.0.fields) c.2 in
-    (rest.0, ap (λ (l : Laid). l.fields) laid ∙ rest.1, rest.2 ∙ length-in_layout_order c.0.fields ∙ ap (λ (l : List FieldDecl). length l) (sym (own-count cs k c.0 c.1)))
+    let own : c.0.fields ≡ own_fields_of cs k = sym (own-count cs k c.0 c.1) in (
+      rest.0,
+      ap (λ (l : Laid). l.fields) laid ∙ rest.1,
+      rest.2 ∙ length-in_layout_order c.0.fields ∙ ap (λ (l : List FieldDecl). length l) own,
+      rest.3 ∙ ap (λ (l : List FieldDecl). map (λ f. f.name) (in_layout_order l)) own,
+    )
 
 -- so a place of the superclass is one of the class
 pub superclass-places : (cs : List Class) (k p : ℕ) (at : FieldAt) → IsClassList cs → slice_get (map (λ c. c.parent) cs) k ≡ Some (Some p)

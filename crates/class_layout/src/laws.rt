@@ -3,7 +3,7 @@ ghost use Rattle.std.specs.Prelude.{◌≡◌, ℕ, ◌++◌, List, Option, Some
 ghost use Rattle.class_layout.specs.declared.kind.FieldAt.{FieldAt};
 ghost use Rattle.class_layout.specs.declared.kind.FieldDecl.{FieldDecl};
 ghost use Rattle.class_layout.specs.ClassList.{Class, layout_of, own_fields_of, superclass_layout, IsClassList};
-ghost use Rattle.class_layout.specs.Layout.{field_named, lay_out, Placed};
+ghost use Rattle.class_layout.specs.Layout.{field_named, in_layout_order, lay_out, Placed};
 ghost use Rattle.class_layout.specs.Placing.{IsIn};
 
 /// The layout rule: a class's own fields are laid out behind its superclass's layout, and those of class 1 alone are weak.
@@ -18,11 +18,12 @@ pub fn places_have_declared_kinds()
     ensures kind { (cs : List Class) (k : ℕ) (f : FieldDecl) (at : FieldAt) → IsClassList cs → IsIn f (own_fields_of cs k) → field_named (layout_of cs k) f.name ≡ Some at → at.kind ≡ f.kind }
 {}
 
-/// A class has the places of its superclass first and in order, and behind them one for each field that it declares. A
-/// field of the superclass is found at the same place.
+/// A class has the places of its superclass first and in order, and behind them one for each field that it declares, in
+/// the order of the layout. A field of the superclass is found at the same place.
 pub fn inherited_places_come_first()
     ensures first { (cs : List Class) (k p : ℕ) → IsClassList cs → slice_get (map (λ c. c.parent) cs) k ≡ Some (Some p)
-        → (own : List Placed) × ((layout_of cs k).fields ≡ (layout_of cs p).fields ++ own) × (length own ≡ length (own_fields_of cs k)) }
+        → (own : List Placed) × ((layout_of cs k).fields ≡ (layout_of cs p).fields ++ own) × (length own ≡ length (own_fields_of cs k))
+        × (map (λ x. x.name) own ≡ map (λ f. f.name) (in_layout_order (own_fields_of cs k))) }
     ensures found { (cs : List Class) (k p : ℕ) (name : List ℕ) (at : FieldAt) → IsClassList cs → slice_get (map (λ c. c.parent) cs) k ≡ Some (Some p)
         → field_named (layout_of cs p) name ≡ Some at → field_named (layout_of cs k) name ≡ Some at }
 {}

@@ -7,5 +7,6 @@ pub mod Places
 pub mod Reached
 pub mod Sizes
 pub mod Slots
+pub mod Stores
 pub mod Totals
 pub mod Twice

@@ -1,19 +1,20 @@
 //! Laws above the definitions: what they say, in other words.
-ghost use Rattle.std.specs.Prelude.{◌≡◌, ◌⊎◌, ◌↔◌, ◌≤◌, ℕ, List, true};
+ghost use Rattle.std.specs.Prelude.{◌≡◌, ◌⊎◌, ◌↔◌, ◌≤◌, ℕ, List, true, nat_eq};
 ghost use Rattle.std.specs.List.{AllByRecursion};
 ghost use Rattle.class_layout.specs.ClassList.{Class, IsClassList};
 ghost use Rattle.class_layout.specs.declared.kind.FieldAt.{FieldAt};
 ghost use Rattle.class_layout.specs.Placing.{IsIn};
+ghost use Rattle.heap_graph.specs.declared.names.Content.TheVariants as content;
 ghost use Rattle.heap_graph.specs.declared.names.Shape.{Shape};
 ghost use Rattle.heap_graph.specs.declared.names.Stored.{Stored};
-ghost use Rattle.heap_graph.specs.Collection.{collect, is_kept};
+ghost use Rattle.heap_graph.specs.Collection.{clear_if, cleared_slots, collect, is_kept};
 ghost use Rattle.heap_graph.specs.Formed.{FitsKind, HasSlot, IsFormed};
 ghost use Rattle.heap_graph.specs.Graph.{Graph, Object, is_immune};
 ghost use Rattle.heap_graph.specs.Packing.{costs, places_from, used, young_objects, young_sizes};
 ghost use Rattle.heap_graph.specs.Paths.{ArePacked, FitRegions, FitsRegion, IsClosed, IsReached, LeadsTo};
 ghost use Rattle.heap_graph.specs.Places.{places_of};
 ghost use Rattle.heap_graph.specs.Reach.{Node, is_among, reached, reached_from};
-ghost use Rattle.heap_graph.specs.Values.{value_at};
+ghost use Rattle.heap_graph.specs.Values.{targets, value_at, value_if, with_stored};
 
 /// Reaching by rounds is a path of strong slots, among nodes and among the objects of a graph.
 pub fn reaching_is_a_path()
@@ -72,4 +73,12 @@ pub fn places_are_apart()
 /// What stands at a place of an object of a formed graph is of the place's kind.
 pub fn values_fit_their_places()
     ensures { (g : Graph) (o : Object) (at : FieldAt) → IsFormed g → IsIn o g.objects → IsIn at (places_of g.classes o.shape) → FitsKind at.kind (value_at o.slots at) }
+{}
+
+/// A store puts its value in its place and leaves each other place as it was. Clearing is of each place alone: a weak one
+/// loses an object that isn't kept. The object that a place holds is among the targets.
+pub fn places_hold_what_was_stored()
+    ensures stored { (ss : List Stored) (new : Stored) (at : FieldAt) → value_at (with_stored ss new) at ≡ value_if (nat_eq new.at.offset at.offset) new.value (value_at ss at) }
+    ensures cleared { (g : Graph) (o : Object) (at : FieldAt) (kept : List ℕ) → IsFormed g → IsIn o g.objects → IsIn at (places_of g.classes o.shape) → value_at (cleared_slots kept o.slots) at ≡ clear_if at.weak kept (value_at o.slots at) }
+    ensures target { (ss : List Stored) (at : FieldAt) (n : ℕ) → value_at ss at ≡ content.Object n → is_among (targets ss) n ≡ true }
 {}

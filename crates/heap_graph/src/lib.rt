@@ -9,6 +9,7 @@ mod names;
 pub use laws::{
     collecting_costs_no_more, collecting_leaves_nothing_dangling, collecting_twice_is_once,
     collecting_uses_no_more, kept_is_immune_or_reached, places_are_apart, places_are_packed,
-    places_are_slots, reaching_is_a_path, values_fit_their_places, young_objects_are_packed,
+    places_are_slots, places_hold_what_was_stored, reaching_is_a_path, values_fit_their_places,
+    young_objects_are_packed,
 };
 pub use names::{Content, Held, Place, Root, Shape, Stored};

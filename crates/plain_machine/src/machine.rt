@@ -265,7 +265,6 @@ impl Machine {
         ensures reply { (w : World) → StandsFor self.old w → AreEarlier line w → IfOk result (λ reply. reply ≡ (step w line command.now).reply) }
         ensures world { (w : World) → StandsFor self.old w → AreEarlier line w → OnOk result (StandsFor self.new (step w line command.now).world) }
         ensures left { (w : World) → StandsFor self.old w → AreEarlier line w → OnErr result (StandsAmong self.new (left_worlds w line command.now)) }
-        ensures err { (w : World) → StandsFor self.old w → OnErr result (StandsFor self.new w) }
     {
         self.step_line(line, command)
     }

@@ -11,7 +11,7 @@ use Rattle.heap_world.specs.Effect.{Effect}
 use Rattle.heap_world.specs.Commands.{HasFewFields}
 use Rattle.heap_world.specs.World.{Process, World, child_process, fork_done, fork_if, fork_named, is_done, is_taken, process_after, process_named, step, step_found, step_live, stepped}
 use Rattle.heap_world.proofs.Processes.{or_false, put, taken}
-use Rattle.world_laws.specs.Wanting.{CameOnAlone, collected_world, collects, left_worlds, promoted_worlds, without_new, worlds_between}
+use Rattle.world_laws.specs.Wanting.{CameOnAlone, IsFork, collected_world, collects, left_worlds, promoted_worlds, without_new, worlds_between}
 use Rattle.world_laws.specs.Worlds.{AreNamedApart, IsInOrder, IsSoundWorld}
 use Rattle.world_laws.proofs.InOrder.{later_line, step_in_order}
 use Rattle.world_laws.proofs.Refusing.{put_same}
@@ -56,7 +56,7 @@ module _ (w : World) (n : ℕ) (c : Command) where
 
   -- the world before, or one where the process alone came on
   abbrev IsLeft : World → Type 0
-  IsLeft left = (left ≡ w) ⊎ CameOnAlone w n c.process left
+  IsLeft left = (left ≡ w) ⊎ CameOnAlone w n c left
 
   collected_left : IsSoundWorld w → IsLeft (collected_world w n c.process)
   collected_left sound = found (process_named w.processes c.process) refl
@@ -73,8 +73,8 @@ module _ (w : World) (n : ℕ) (c : Command) where
       found None is = inl refl
       found (Some q) is = live q.part.exited q is
 
-  promoted_left : (child : List ℕ) → IsLeft (without_new w (step_found w n (process_named w.processes c.process) (verb.Fork child)).world)
-  promoted_left child = found (process_named w.processes c.process) refl
+  promoted_left : (child : List ℕ) → IsFork c.verb → IsLeft (without_new w (step_found w n (process_named w.processes c.process) (verb.Fork child)).world)
+  promoted_left child forks = found (process_named w.processes c.process) refl
     where
       stays : without_new w w ≡ w
       stays = ap (λ ps. record { processes = ps }) (take_all (length w.processes) w.processes (omega arith))
@@ -94,8 +94,8 @@ module _ (w : World) (n : ℕ) (c : Command) where
           (ap (λ k. take k (put new w.processes ++ r ∷ [])) (sym (as_many new)) ∙ take-append_seam (put new w.processes) (r ∷ []))
 
       done : (b : Bool) (q : Process) → process_named w.processes c.process ≡ Some q → IsLeft (without_new w (fork_done b w n q child (fork_part q.part)).world)
-      done true q is = inr (q, is, inr (puts_more q (child_process (process_after n (fork_part q.part) q) child) (fork_part q.part)))
-      done false q is = inr (q, is, inr (puts q (fork_part q.part)))
+      done true q is = inr (q, is, inr (forks, puts_more q (child_process (process_after n (fork_part q.part) q) child) (fork_part q.part)))
+      done false q is = inr (q, is, inr (forks, puts q (fork_part q.part)))
 
       named : (b : Bool) (q : Process) → process_named w.processes c.process ≡ Some q → IsLeft (without_new w (fork_named b w n q child).world)
       named true q is = inl stays
@@ -131,7 +131,7 @@ module _ (w : World) (n : ℕ) (c : Command) where
 
   pub left_alone : IsSoundWorld w → (left : World) → IsIn left (left_worlds w n c) → IsLeft left
   left_alone sound = each_left IsLeft (inl refl) (collected_left sound)
-      (λ child e. subst (λ v. IsLeft (without_new w (step_found w n (process_named w.processes c.process) v).world)) (sym e) (promoted_left child))
+      (λ child e. subst (λ v. IsLeft (without_new w (step_found w n (process_named w.processes c.process) v).world)) (sym e) (promoted_left child (child, e)))
 
   pub left_in_order : HasFewFields c.verb → IsInOrder n w → (left : World) → IsIn left (left_worlds w n c) → IsInOrder (n + 1) left
   left_in_order few order = each_left (IsInOrder (n + 1)) (later_line n (n + 1) w (omega arith) order) (step_in_order w n gc_command tt order)

@@ -42,8 +42,12 @@ worlds_between false w line c = []
 abbrev pub left_worlds : World → ℕ → Command → List World
 left_worlds w line c = w ∷ worlds_between (collects c.verb (step w line c).reply) w line c
 
--- the process of a name was collected, or promoted as by a fork, and all else is as it was
-abbrev pub CameOnAlone : World → ℕ → List ℕ → World → Type 0
-CameOnAlone w line name left =
-    (q : Process) × (process_named w.processes name ≡ Some q)
-    × ((left ≡ put_process w (record q { part = with_collected q.part (collect q.part.graph) })) ⊎ (left ≡ put_process w (process_after line (fork_part q.part) q)))
+-- the command forks
+abbrev pub IsFork : Verb → Type 0
+IsFork v = (child : List ℕ) × (v ≡ verb.Fork child)
+
+-- the process of the command was collected, or by a fork promoted, and all else is as it was
+abbrev pub CameOnAlone : World → ℕ → Command → World → Type 0
+CameOnAlone w line c left =
+    (q : Process) × (process_named w.processes c.process ≡ Some q)
+    × ((left ≡ put_process w (record q { part = with_collected q.part (collect q.part.graph) })) ⊎ (IsFork c.verb × (left ≡ put_process w (process_after line (fork_part q.part) q))))

@@ -40,6 +40,6 @@ pub fn worlds_stay_in_order()
 /// Where memory was wanting for a line, the world before it is left, or one where its process alone was collected, or
 /// promoted as by a fork. Each world that may be left is in order before the next line.
 pub fn left_worlds_stay_in_order()
-    ensures alone { (w left : World) (line : ℕ) (c : Command) → IsSoundWorld w → IsIn left (left_worlds w line c) → (left ≡ w) ⊎ CameOnAlone w line c.process left }
+    ensures alone { (w left : World) (line : ℕ) (c : Command) → IsSoundWorld w → IsIn left (left_worlds w line c) → (left ≡ w) ⊎ CameOnAlone w line c left }
     ensures order { (w left : World) (line : ℕ) (c : Command) → HasFewFields c.verb → IsInOrder line w → IsIn left (left_worlds w line c) → IsInOrder (line + 1) left }
 {}
