@@ -1,82 +1,11 @@
--- How many frames have an entry.
-use Rattle.std.proofs.Common.{◌≡◌, ℕ, zero, suc, ◌+◌, ◌<◌, ◌≤◌, Bool, false, cond, List, [], ◌∷◌, map, length, get_or, Some, None, Option, refl, sym, ap, subst, ◌∙◌, inl, inr, arith, eqb, ◌||◌, Contains}
-use Rattle.std.specs.Prelude.{option_map, nat_eq}
+-- How many frames and leaves are used.
+use Rattle.std.proofs.Common.{◌≡◌, ℕ, zero, suc, ◌+◌, ◌<◌, ◌≤◌, Bool, false, cond, List, [], ◌∷◌, length, get_or, Some, refl, sym, ap, ◌∙◌, inl, inr, arith, eqb, ◌||◌, Contains}
+use Rattle.std.specs.Prelude.{nat_eq}
 use Rattle.std.specs.List.{list_any, IsDistinct, AllByRecursion}
 use Rattle.std.proofs.lemmas.Bool.{cases_eq, cases_lt, eq-eqb, eqb-false, ne_eqb, cond-true, cond-false}
-use Rattle.std.proofs.lemmas.Option.{none-some, same_Some}
-use Rattle.cow_pages.specs.Memory.{Memory, Page, Table, page_in, pages_of, frame_at, frames_of, used_frames, distinct_count, RisesFrom, IsSound}
-use Rattle.cow_pages.specs.Pool.{holders}
+use Rattle.cow_pages.specs.Memory.{Memory, frame_at, frames_of, used_frames, distinct_count, IsSound}
 use Rattle.cow_pages.specs.Laws.{AreUsed}
-use Rattle.cow_pages.proofs.SoundLemmas.{count-step, holders-yes, holders-no, holders-append, absent, absent-step, AreBelow, distinct_and_absent}
-use Rattle.cow_pages.proofs.LawLemmas.{page_in-below}
-
-abbrev pub frame_list : Table → List ℕ
-frame_list pages = map (λ (it : ℕ × Page). it.1.frame) pages
-
--- a page's frame is one of the table's
-pub holders-page : (xs : Table) (p : ℕ) (page : Page) → page_in xs p ≡ Some page → 1 ≤ holders (frame_list xs) page.frame
-holders-page [] p page is = absurd (none-some page is)
-holders-page ((q, first) ∷ rest) p page is =
-    elim (cases_eq q p) [
-      | inl same ↦
-          let it = same_Some first page (sym (cond-true (eqb q p) (Some first) (page_in rest p) (eq-eqb q p same)) ∙ is) in
-          omega (arith, holders-yes (frame_list rest) first.frame page.frame (ap (λ (page : Page). page.frame) it))
-      | inr apart ↦
-          let later = holders-page rest p page (sym (cond-false (eqb q p) (Some first) (page_in rest p) (ne_eqb q p apart)) ∙ is) in
-          omega (arith, later, count-step (λ x. eqb x page.frame) first.frame (frame_list rest))
-    ]
-
-pub holders-option : (xs : Table) (p f : ℕ) → option_map (λ (page : Page). page.frame) (page_in xs p) ≡ Some f → 1 ≤ holders (frame_list xs) f
-holders-option xs p f is = by_page (page_in xs p) refl is
-  where
-    by_page : (o : Option Page) → page_in xs p ≡ o → option_map (λ (page : Page). page.frame) o ≡ Some f → 1 ≤ holders (frame_list xs) f
-    by_page None at is = absurd (none-some f is)
-    by_page (Some page) at is = subst (λ n. 1 ≤ holders (frame_list xs) n) (same_Some page.frame f is) (holders-page xs p page at)
-
--- the frame of an entry is one of all
-pub holders-entries : (tables : List (Option Table)) (t p f : ℕ) → option_map (λ (page : Page). page.frame) (page_in (pages_of (get_or tables t None)) p) ≡ Some f → 1 ≤ holders (frames_of tables) f
-holders-entries [] t p f is = absurd (none-some f is)
-holders-entries (table ∷ rest) zero p f is = omega (arith, holders-option (pages_of table) p f is, holders-append (frame_list (pages_of table)) (frames_of rest) f)
-holders-entries (table ∷ rest) (suc t) p f is = omega (arith, holders-entries rest t p f is, holders-append (frame_list (pages_of table)) (frames_of rest) f)
-
--- a page of the table with the frame
-pub record PageWith (xs : Table) (f : ℕ) : Type 0 where
-  pub number : ℕ
-  pub is : option_map (λ (page : Page). page.frame) (page_in xs number) ≡ Some f
-
-pub page_with : (xs : Table) (k f : ℕ) → RisesFrom k xs → 1 ≤ holders (frame_list xs) f → PageWith xs f
-page_with [] k f rises some = absurd (omega (arith, some))
-page_with ((q, first) ∷ rest) k f rises some =
-    elim (cases_eq first.frame f) [
-      | inl same ↦ record {
-        number = q;
-        is = ap (option_map (λ (page : Page). page.frame)) (cond-true (eqb q q) (Some first) (page_in rest q) (eq-eqb q q refl)) ∙ ap Some same;
-      }
-      | inr apart ↦
-          let later = page_with rest (q + 1) f rises.1 (omega (arith, some, holders-no (frame_list rest) first.frame f apart)) in
-          elim (cases_eq q later.number) [
-            | inl equal ↦ absurd (none-some f (sym (ap (option_map (λ (page : Page). page.frame)) (page_in-below rest (q + 1) later.number rises.1 (omega arith))) ∙ later.is))
-            | inr other ↦ record {
-              number = later.number;
-              is = ap (option_map (λ (page : Page). page.frame)) (cond-false (eqb q later.number) (Some first) (page_in rest later.number) (ne_eqb q later.number other)) ∙ later.is;
-            }
-          ]
-    ]
-
--- a table and a page with the frame
-pub record EntryWith (tables : List (Option Table)) (f : ℕ) : Type 0 where
-  pub table : ℕ
-  pub page : PageWith (pages_of (get_or tables table None)) f
-
-pub entry_with : (tables : List (Option Table)) (f : ℕ) → ((t : ℕ) → RisesFrom 0 (pages_of (get_or tables t None))) → 1 ≤ holders (frames_of tables) f → EntryWith tables f
-entry_with [] f rises some = absurd (omega (arith, some))
-entry_with (table ∷ rest) f rises some =
-    elim (cases_lt 0 (holders (frame_list (pages_of table)) f)) [
-      | inl here ↦ record { table = 0; page = page_with (pages_of table) 0 f (rises 0) (omega arith) }
-      | inr none ↦
-          let later = entry_with rest f (λ t. rises (suc t)) (omega (arith, some, none, holders-append (frame_list (pages_of table)) (frames_of rest) f)) in
-          record { table = suc later.table; page = later.page }
-    ]
+use Rattle.cow_pages.proofs.HolderLemmas.{holders, count-step, holders-yes, holders-no, absent, absent-step, distinct_and_absent, all_below, entry_with, holders-entries}
 
 -- lists with the same members have as many different ones
 pub absent-same : (xs ys : List ℕ) (k n : ℕ) → ((f : ℕ) → 1 ≤ holders xs f → 1 ≤ holders ys f) → ((f : ℕ) → 1 ≤ holders ys f → 1 ≤ holders xs f) → absent xs k n ≡ absent ys k n
@@ -99,11 +28,6 @@ absent-same xs ys k (suc n) one other =
       | inl some ↦ absurd (not (omega arith))
       | inr none ↦ omega arith
     ]
-
-pub all_below : (n : ℕ) (xs : List ℕ) → ((f : ℕ) → 1 ≤ holders xs f → f < n) → AreBelow n xs
-all_below n [] all = tt
-all_below n (x ∷ xs) all =
-    (all x (omega (arith, holders-yes xs x x refl)), all_below n xs (λ f some. all f (omega (arith, some, count-step (λ y. eqb y f) x xs))))
 
 -- no number of a list without repeats is one of the later ones
 pub none_later : (x : ℕ) (xs : List ℕ) → AllByRecursion (λ y. eqb x y ≡ false) xs → list_any (λ y. eqb y x) xs ≡ false

@@ -6,7 +6,7 @@ use Rattle.cow_pages.specs.Address.{page_of, offset_of}
 use Rattle.cow_pages.specs.Memory.{Memory, Page, Table, page_in, pages_of, page_at, is_live, is_mapped, IsSound}
 use Rattle.cow_pages.specs.Change.{ChangesPage, ChangesTable, MapsZeros, WritesPage, settled, patched}
 use Rattle.cow_pages.specs.View.{View, view_of, byte_at, byte_in, numbers_from, SameView, OthersSeen, AllSeen, MapsPage, UnmapsPage, WritesBytes, IsEmptyView, bytes_at}
-use Rattle.cow_pages.proofs.FrameLemmas.{patched-before, patched-in, patched-after}
+use Rattle.cow_pages.proofs.PatchLemmas.{patched-before, patched-in, patched-after}
 
 pub byte-page : (old new : Memory) (t u at : ℕ) → page_at new u (page_of at) ≡ page_at old t (page_of at) → byte_at new u at ≡ byte_at old t at
 unfolding byte_at

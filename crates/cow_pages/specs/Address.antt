@@ -37,3 +37,19 @@ is_in_window page = is_in Image page || is_in Zygote page || is_in Regions page 
 -- the address lies in the image or zygote window, where reads are counted
 abbrev pub is_immune : ℕ → Bool
 is_immune at = is_in Image (page_of at) || is_in Zygote (page_of at)
+
+-- how many pages stand in a leaf
+abbrev pub leaf_pages : ℕ
+leaf_pages = 1024
+
+-- how many leaves a table has at most
+abbrev pub table_leaves : ℕ
+table_leaves = 1024
+
+-- which of a table's leaves has a page
+abbrev pub leaf_index : ℕ → ℕ
+leaf_index page = page / leaf_pages
+
+-- where in its leaf a page stands
+abbrev pub leaf_slot : ℕ → ℕ
+leaf_slot page = page % leaf_pages

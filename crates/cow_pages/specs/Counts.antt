@@ -17,3 +17,7 @@ with_count counts Image n = record counts { image = n }
 with_count counts Zygote n = record counts { zygote = n }
 with_count counts Regions n = record counts { regions = n }
 with_count counts Large n = record counts { large = n }
+
+-- nothing counted
+abbrev pub no_counts : Counts
+no_counts = record { image = 0; zygote = 0; regions = 0; large = 0 }

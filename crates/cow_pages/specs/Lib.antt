@@ -4,8 +4,11 @@ pub mod Memory
 pub mod View
 pub mod Change
 pub mod Counts
-pub mod Place
-pub mod Pool
+pub mod Frame
+pub mod Leaf
 pub mod Tables
+pub mod Grid
 pub mod Store
+pub mod Steps
+pub mod Only
 pub mod Laws

@@ -25,6 +25,15 @@ pub(crate) const LARGE_PAGE: u32 = LARGE_BASE / PAGE_BYTES;
 pub(crate) const LARGE_PAGE_END: u32 = LARGE_PAGE
     + LARGE_SLOT_COUNT * LARGE_SLOT_BYTES / PAGE_BYTES;
 
+/// How many pages a leaf has.
+pub(crate) const LEAF_PAGES: usize = 1024;
+
+/// How many leaves a table has at most: one for each 1,024 pages of all addresses.
+pub(crate) const TABLE_LEAVES: usize = 1024;
+
+/// How many pages all addresses have.
+pub(crate) const ALL_PAGES: u32 = 0x10_0000;
+
 /// The address of a byte.
 #[derive(Clone, Copy, PartialEq, Eq, Debug)]
 pub struct Addr(pub u32);
@@ -40,6 +49,10 @@ pub struct FrameNo(pub usize);
 /// The number of a page table. It may be given out again once its table was dropped.
 #[derive(Clone, Copy, PartialEq, Eq, Debug)]
 pub struct TableNo(pub usize);
+
+/// The number of a leaf: what one table, or several, have for the same 1,024 pages.
+#[derive(Clone, Copy, PartialEq, Eq, Debug)]
+pub struct LeafNo(pub usize);
 
 /// A range of addresses that may be mapped.
 #[derive(Clone, Copy, PartialEq, Eq, Debug)]

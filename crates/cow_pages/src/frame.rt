@@ -1,37 +1,24 @@
-//! A frame: the bytes of a page, and how many entries have it.
-ghost use Rattle.std.specs.Prelude.{◌≡◌, ◌≢◌, ◌+◌, ◌≤◌, ◌<◌, [], ◌∷◌, ◌^◌, length, slice_index, replicate};
+//! A frame: the bytes of a page.
+ghost use Rattle.std.specs.Prelude.{◌≡◌, ◌≢◌, ◌+◌, ◌≤◌, ◌<◌, [], ◌∷◌, ◌^◌, length, slice_index, slice_set, replicate};
 ghost use Rattle.std.specs.Int.{w16, w32, w64, from_le_bytes};
-ghost use Rattle.model_numbers.specs.Numbers.{page_bytes};
 ghost use Rattle.cow_pages.specs.Change.{patched};
-ghost use Rattle.cow_pages.specs.Pool.{bytes_of, OnlyBytes, SetsBytes};
+ghost use Rattle.cow_pages.specs.Frame.{zero_frame, frame_of};
 
 use model_numbers::PAGE_BYTES;
 
-/// A frame that no entry has is free, and stands in the list of free frames.
+/// The bytes of a page, which one entry of a leaf has, or several.
 #[derive(Drop)]
 pub struct Frame {
     pub bytes: [u8; PAGE_BYTES as usize],
-    /// How many entries have the frame.
-    pub sharers: usize,
-    /// Of a free frame: the next free frame, if its rank is above 1.
-    pub next: u32,
-    /// Of a free frame: its place in the list of free frames, counted from the end, whose rank is 1.
-    pub rank: u32,
 }
 
 impl Frame {
-    /// A frame at the head of the list of free frames.
-    pub fn free(next: u32, rank: u32) -> Frame
-        ensures bytes { result.bytes ≡ replicate page_bytes 0 }
-        ensures sharers { result.sharers ≡ 0 }
-        ensures next { result.next ≡ next }
-        ensures rank { result.rank ≡ rank }
+    /// A frame of zeros.
+    pub fn zeros() -> Frame
+        ensures { result ≡ zero_frame }
     {
         Frame {
             bytes: [0; PAGE_BYTES as usize],
-            sharers: 0,
-            next,
-            rank,
         }
     }
 }
@@ -99,8 +86,7 @@ pub fn copy_bytes(frames: &mut [Frame], from: usize, to: usize)
     requires from_within { from < length frames.old }
     requires to_within { to < length frames.old }
     requires apart { from ≢ to }
-    ensures heads { OnlyBytes frames.old frames.new }
-    ensures bytes { SetsBytes frames.old frames.new to (bytes_of frames.old from) }
+    ensures { frames.new ≡ slice_set frames.old to (frame_of frames.old from) }
 {
     if from < to {
         let (low, high) = frames.split_at_mut(to);

@@ -1,56 +1,13 @@
-//! A page table: an entry for each page of the four windows.
-ghost use Rattle.std.specs.Prelude.{◌≡◌, ◌≢◌, ℕ, ◌+◌, ◌-◌, ◌<◌, ◌≤◌, length, map, replicate, IfOk, Some, None, true, false, slice_set, slice_index_or, ◌^◌};
-ghost use Rattle.cow_pages.specs.Counts.{count_in, with_count};
-ghost use Rattle.cow_pages.specs.Place.{place_count, place_of, window_of_place};
-ghost use Rattle.cow_pages.specs.Tables.{IsCounted, cleared, one_mapped, one_written};
+//! A page table: a leaf for each 1,024 pages.
+ghost use Rattle.std.specs.Prelude.{◌≡◌, ◌+◌, ◌-◌, ◌<◌, ◌≤◌, ◌^◌, replicate, IfOk, None, IsTrue};
+ghost use Rattle.cow_pages.specs.Address.{is_in_window, table_leaves};
+ghost use Rattle.cow_pages.specs.Counts.{count_in, with_count, no_counts};
+ghost use Rattle.cow_pages.specs.Leaf.{one_mapped, one_written};
+ghost use Rattle.cow_pages.specs.Tables.{window_of};
 
-use crate::address::{
-    IMAGE_PAGE, IMAGE_PAGE_END, LARGE_PAGE, LARGE_PAGE_END, PageNo, REGIONS_PAGE, REGIONS_PAGE_END,
-    Window, ZYGOTE_PAGE, ZYGOTE_PAGE_END,
-};
-use model_numbers::{
-    IMAGE_LENGTH, LARGE_SLOT_BYTES, LARGE_SLOT_COUNT, PAGE_BYTES, REGION_BYTES, REGION_COUNT,
-    ZYGOTE_LENGTH,
-};
+use crate::address::{LARGE_PAGE, REGIONS_PAGE, TABLE_LEAVES, Window, ZYGOTE_PAGE};
+use crate::leaf::Entry;
 use std::alloc::{AllocError, Global};
-
-/// How many pages all windows have together.
-pub const PLACES: usize = LARGE_PLACE + (LARGE_SLOT_COUNT * LARGE_SLOT_BYTES / PAGE_BYTES) as usize;
-
-const ZYGOTE_PLACE: usize = (IMAGE_LENGTH / PAGE_BYTES) as usize;
-
-const REGIONS_PLACE: usize = ZYGOTE_PLACE + (ZYGOTE_LENGTH / PAGE_BYTES) as usize;
-
-const LARGE_PLACE: usize = REGIONS_PLACE + (REGION_COUNT * REGION_BYTES / PAGE_BYTES) as usize;
-
-/// What a table has at a mapped page.
-#[derive(Clone, Copy)]
-pub struct Entry {
-    pub frame: u32,
-    pub written: bool,
-}
-
-impl Entry {
-    /// An entry without its flag.
-    pub fn new(frame: usize) -> Entry
-        requires { frame < 2 ^ 32 }
-        ensures { result ≡ record { frame = frame; written = false } }
-    {
-        Entry {
-            frame: frame as u32,
-            written: false,
-        }
-    }
-
-    pub fn with_flag(self) -> Entry
-        ensures { result ≡ record self { written = true } }
-    {
-        Entry {
-            frame: self.frame,
-            written: true,
-        }
-    }
-}
 
 /// A count for each window.
 #[derive(Clone, Copy)]
@@ -61,44 +18,25 @@ pub struct Counts {
     pub large: u32,
 }
 
-/// The entries of the image window's pages, and then those of the zygote, regions and large windows.
+/// The leaves of a table, each by its number.
 #[derive(Drop)]
 pub struct Table {
-    pub entries: Vec<Option<Entry>>,
+    pub leaves: Vec<Option<u32>>,
     pub mapped: Counts,
     pub written: Counts,
 }
 
-/// The place of a page among the pages of all windows.
+/// The window of a page.
 #[inline]
-pub fn place_of(page: PageNo) -> Option<usize>
-    ensures { result ≡ place_of page.0 }
+pub fn window_of(page: u32) -> Window
+    requires { IsTrue (is_in_window page) }
+    ensures { result ≡ window_of page }
 {
-    let page = page.0;
-    if IMAGE_PAGE <= page && page < IMAGE_PAGE_END {
-        return Some((page - IMAGE_PAGE) as usize);
-    }
-    if ZYGOTE_PAGE <= page && page < ZYGOTE_PAGE_END {
-        return Some((page - ZYGOTE_PAGE) as usize + ZYGOTE_PLACE);
-    }
-    if REGIONS_PAGE <= page && page < REGIONS_PAGE_END {
-        return Some((page - REGIONS_PAGE) as usize + REGIONS_PLACE);
-    }
-    if LARGE_PAGE <= page && page < LARGE_PAGE_END {
-        return Some((page - LARGE_PAGE) as usize + LARGE_PLACE);
-    }
-    None
-}
-
-/// The window of the page at a place.
-pub fn window_at(place: usize) -> Window
-    ensures { result ≡ window_of_place place }
-{
-    if place < ZYGOTE_PLACE {
+    if page < ZYGOTE_PAGE {
         Window::Image
-    } else if place < REGIONS_PLACE {
+    } else if page < REGIONS_PAGE {
         Window::Zygote
-    } else if place < LARGE_PLACE {
+    } else if page < LARGE_PAGE {
         Window::Regions
     } else {
         Window::Large
@@ -155,57 +93,37 @@ impl Counts {
 }
 
 impl Table {
+    /// A table without leaves.
     pub fn new(alloc: Global) -> Result<Table, AllocError>
-        ensures entries { IfOk result (λ it. (k : ℕ) → slice_index_or it.entries.items k None ≡ None) }
-        ensures counted { IfOk result IsCounted }
+        ensures leaves { IfOk result (λ it. it.leaves.items ≡ replicate table_leaves None) }
+        ensures mapped { IfOk result (λ it. it.mapped ≡ no_counts) }
+        ensures written { IfOk result (λ it. it.written ≡ no_counts) }
     {
         Ok(Table {
-            entries: no_entries(alloc, PLACES)?,
+            leaves: no_leaves(alloc, TABLE_LEAVES)?,
             mapped: Counts::zero(),
             written: Counts::zero(),
         })
     }
 
-    /// A table with the same entries.
+    /// A table with the same leaves.
     pub fn copy(&self) -> Result<Table, AllocError>
-        requires { IsCounted self.now }
-        ensures entries { IfOk result (λ it. it.entries.items ≡ self.now.entries.items) }
-        ensures counted { IfOk result IsCounted }
+        ensures leaves { IfOk result (λ it. it.leaves.items ≡ self.now.leaves.items) }
+        ensures mapped { IfOk result (λ it. it.mapped ≡ self.now.mapped) }
+        ensures written { IfOk result (λ it. it.written ≡ self.now.written) }
     {
         Ok(Table {
-            entries: self.entries.clone()?,
+            leaves: self.leaves.clone()?,
             mapped: self.mapped,
             written: self.written,
         })
     }
 
-    #[inline]
-    pub fn entry(&self, place: usize) -> Option<Entry>
-        requires { place < length self.now.entries.items }
-        ensures { result ≡ slice_index_or self.now.entries.items place None }
-    {
-        self.entries[place]
-    }
-
-    /// Puts an entry at a place, or none.
-    pub fn set(&mut self, place: usize, entry: Option<Entry>)
-        requires counted { IsCounted self.old }
-        requires within { place < place_count }
-        ensures entries { self.new.entries.items ≡ slice_set self.old.entries.items place entry }
-        ensures counted { IsCounted self.new }
-    {
-        let window = window_at(place);
-        let old = self.entries[place];
-        self.uncount(window, old);
-        self.entries[place] = entry;
-        self.count(window, entry);
-    }
-
-    /// Counts an entry that joins.
-    fn count(&mut self, window: Window, entry: Option<Entry>)
+    /// Counts an entry of a window that joins.
+    pub fn count(&mut self, window: Window, entry: Option<Entry>)
         requires mapped { count_in self.old.mapped window + 1 < 2 ^ 32 }
         requires written { count_in self.old.written window + 1 < 2 ^ 32 }
-        ensures entries { self.new.entries ≡ self.old.entries }
+        ensures leaves { self.new.leaves ≡ self.old.leaves }
         ensures mapped { self.new.mapped ≡ with_count self.old.mapped window (count_in self.old.mapped window + one_mapped entry) }
         ensures written { self.new.written ≡ with_count self.old.written window (count_in self.old.written window + one_written entry) }
     {
@@ -217,11 +135,11 @@ impl Table {
         }
     }
 
-    /// Counts an entry that goes no longer.
-    fn uncount(&mut self, window: Window, entry: Option<Entry>)
+    /// Counts an entry of a window no longer.
+    pub fn uncount(&mut self, window: Window, entry: Option<Entry>)
         requires mapped { one_mapped entry ≤ count_in self.old.mapped window }
         requires written { one_written entry ≤ count_in self.old.written window }
-        ensures entries { self.new.entries ≡ self.old.entries }
+        ensures leaves { self.new.leaves ≡ self.old.leaves }
         ensures mapped { self.new.mapped ≡ with_count self.old.mapped window (count_in self.old.mapped window - one_mapped entry) }
         ensures written { self.new.written ≡ with_count self.old.written window (count_in self.old.written window - one_written entry) }
     {
@@ -232,42 +150,11 @@ impl Table {
             }
         }
     }
-
-    /// Clears the flag of each entry.
-    pub fn settle(&mut self)
-        requires { IsCounted self.old }
-        ensures entries { self.new.entries.items ≡ map cleared self.old.entries.items }
-        ensures counted { IsCounted self.new }
-    {
-        clear_flags(self.entries.as_mut_slice());
-        self.written = Counts::zero();
-    }
 }
 
-fn no_entries(alloc: Global, count: usize) -> Result<Vec<Option<Entry>>, AllocError>
+fn no_leaves(alloc: Global, count: usize) -> Result<Vec<Option<u32>>, AllocError>
     ensures { IfOk result (λ it. it.items ≡ replicate count None) }
 {
-    let none: Option<Entry> = None;
+    let none: Option<u32> = None;
     vec![in alloc; none; count]
-}
-
-fn clear_flags(entries: &mut [Option<Entry>])
-    ensures { entries.new ≡ map cleared entries.old }
-{
-    for i in 0..entries.len() {
-        entries[i] = cleared(entries[i]);
-    }
-}
-
-#[inline]
-fn cleared(entry: Option<Entry>) -> Option<Entry>
-    ensures { result ≡ cleared entry }
-{
-    match entry {
-        Some(entry) => Some(Entry {
-            frame: entry.frame,
-            written: false,
-        }),
-        None => None,
-    }
 }

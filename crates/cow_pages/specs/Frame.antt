@@ -1,0 +1,15 @@
+-- The frames of a store. No public clause cites this module.
+use Rattle.std.specs.Prelude.{ℕ, List, [], map, replicate, slice_index_or}
+use Rattle.model_numbers.specs.Numbers.{page_bytes}
+use Rattle.cow_pages.specs.declared.frame.Frame.{Frame}
+
+abbrev pub zero_frame : Frame
+zero_frame = record { bytes = replicate page_bytes 0 }
+
+-- the bytes of a frame
+abbrev pub frame_bytes : List Frame → ℕ → List ℕ
+frame_bytes frames f = slice_index_or (map (λ (it : Frame). it.bytes) frames) f []
+
+-- a frame with the bytes of another
+abbrev pub frame_of : List Frame → ℕ → Frame
+frame_of frames f = record { bytes = frame_bytes frames f }
