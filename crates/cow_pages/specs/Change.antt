@@ -16,27 +16,35 @@ pub record ChangesTable (old new : Memory) (t : ℕ) : Type 0 where
   pub live : (u : ℕ) → u ≢ t → is_live new u ≡ is_live old u
   pub reads : new.reads ≡ old.reads
 
--- as many frames as before, and as much spare
+-- as many frames and leaves as before, and as many of them used
 pub record KeepsRoom (old new : Memory) : Type 0 where
   pub frames : new.frames ≡ old.frames
+  pub leaf_count : new.leaf_count ≡ old.leaf_count
   pub spare : new.spare ≡ old.spare
+  pub used : used_frames new ≡ used_frames old
+  pub used_leaves : used_leaves new ≡ used_leaves old
 
--- at most one less is spare; where something was, no frame was made, and else at most one
+-- at most one less is spare; where something was, no frame and no leaf was made, and else at most one of each
 pub record TakesFrame (old new : Memory) : Type 0 where
   pub spare : old.spare ≤ new.spare + 1
-  pub had_spare : old.spare ≢ 0 → new.frames ≡ old.frames
+  pub had_spare : old.spare ≢ 0 → (new.frames ≡ old.frames) × (new.leaf_count ≡ old.leaf_count)
   pub frames : new.frames ≤ old.frames + 1
+  pub leaf_count : new.leaf_count ≤ old.leaf_count + 1
 
 -- exactly one frame more is used, which was made where nothing was spare, if it was made at all
 pub record TakesOne (old new : Memory) : Type 0 where
   pub spare : old.spare ≤ new.spare + 1
   pub frames : new.frames ≤ old.frames + (1 - old.spare)
+  pub leaf_count : new.leaf_count ≤ old.leaf_count + (1 - old.spare)
   pub used : used_frames new ≡ used_frames old + 1
 
--- no frame was made or lost, and no less is spare
+-- no frame or leaf was made or lost, and no more of them are used
 pub record FreesFrames (old new : Memory) : Type 0 where
   pub frames : new.frames ≡ old.frames
+  pub leaf_count : new.leaf_count ≡ old.leaf_count
   pub spare : old.spare ≤ new.spare
+  pub used : used_frames new ≤ used_frames old
+  pub used_leaves : used_leaves new ≤ used_leaves old
 
 -- the reads counted after a read at this address
 abbrev pub reads_after : ℕ → ℕ → ℕ
@@ -100,9 +108,10 @@ pub record OwnsLeaf (old new : Memory) (t i : ℕ) : Type 0 where
   pub alone : HasOwnLeaf new t i
   pub own : leaf_in old t i ≢ None → HasOwnLeaf old t i → (leaf_in old t i ≡ Some leaf) × (used_leaves new ≡ used_leaves old)
   pub shared : HasSharedLeaf old t i ⊎ (leaf_in old t i ≡ None) → IsFreeLeaf old leaf × (used_leaves new ≡ used_leaves old + 1)
+  pub taken : ((leaf_in old t i ≡ Some leaf) × (used_leaves new ≡ used_leaves old)) ⊎ (IsFreeLeaf old leaf × (used_leaves new ≡ used_leaves old + 1))
 
 -- the table has at this index the leaf that it had, or none any more; every other leaf stays
 pub record LeavesLeaf (old new : Memory) (t i : ℕ) : Type 0 where
   pub others : (u j : ℕ) → (u ≢ t) ⊎ (j ≢ i) → leaf_in new u j ≡ leaf_in old u j
-  pub here : (leaf_in new t i ≡ leaf_in old t i) ⊎ (leaf_in new t i ≡ None)
-  pub used : used_leaves new ≤ used_leaves old
+  pub here : ((leaf_in new t i ≡ leaf_in old t i) × (used_leaves new ≡ used_leaves old))
+      ⊎ ((leaf_in new t i ≡ None) × (used_leaves new + 1 ≡ used_leaves old))

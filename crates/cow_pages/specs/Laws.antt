@@ -42,6 +42,12 @@ pub record AreUsed (m : Memory) (fs : List ℕ) : Type 0 where
   pub used : (f : ℕ) → Contains fs f → HasEntry m f
   pub all : (t p f : ℕ) → frame_at m t p ≡ Some f → Contains fs f
 
+-- these are the leaves that some table has, each of them once
+pub record AreUsedLeaves (m : Memory) (ls : List ℕ) : Type 0 where
+  pub differ : IsDistinct nat_eq ls
+  pub used : (l : ℕ) → Contains ls l → (t : ℕ) × (i : ℕ) × (leaf_in m t i ≡ Some l)
+  pub all : (t i l : ℕ) → leaf_in m t i ≡ Some l → Contains ls l
+
 -- the leaves of two tables: pages of one table share a leaf by their numbers alone, two tables that share one have the
 -- same pages there, no flag among them, and no leaf is without a page
 pub record ShareLeaves (m : Memory) : Type 0 where

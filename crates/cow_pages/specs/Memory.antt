@@ -1,5 +1,5 @@
 -- What a contract sees of a `Frames`: its tables, each as the list of its pages.
-use Rattle.std.specs.Prelude.{◌≡◌, ◌≢◌, ℕ, ◌+◌, ◌<◌, ◌≤◌, ◌==◌, Bool, false, if◌then◌else◌, List, [], ◌∷◌, ◌++◌, length, map, All, count_by, Option, Some, None, is_some, option_map, slice_index_or, IsTrue, ◌&&◌, nat_le}
+use Rattle.std.specs.Prelude.{◌≡◌, ◌≢◌, ℕ, ◌+◌, ◌-◌, ◌^◌, ◌<◌, ◌≤◌, min, ◌==◌, Bool, false, if◌then◌else◌, List, [], ◌∷◌, ◌++◌, length, map, All, count_by, Option, Some, None, is_some, option_map, slice_index_or, IsTrue, ◌&&◌, nat_le}
 use Rattle.std.specs.List.{list_any}
 use Rattle.model_numbers.specs.Numbers.{page_bytes}
 use Rattle.cow_pages.specs.declared.address.Window.{Window}
@@ -15,12 +15,13 @@ pub record Page : Type 0 where
 abbrev pub Table : Type 0
 Table = List (ℕ × Page)
 
--- the live tables by number, the leaves of each of them by their index, how many frames there are, how many of these
--- and of the leaves are free, the lesser of both, and the reads counted so far
+-- the live tables by number, the leaves of each of them by their index, how many frames and leaves there are, how many
+-- of the frames and of the leaves are free, the lesser of both, and the reads counted so far
 pub record Memory : Type 0 where
   pub tables : List (Option Table)
   pub leaves : List (List (Option ℕ))
   pub frames : ℕ
+  pub leaf_count : ℕ
   pub spare : ℕ
   pub reads : ℕ
 
@@ -156,7 +157,10 @@ pub record IsSound (m : Memory) : Type 0 where
   pub same_bytes : (t u p : ℕ) (one other : Page) → page_at m t p ≡ Some one → page_at m u p ≡ Some other
       → one.frame ≡ other.frame → one.bytes ≡ other.bytes
   pub written_alone : (t p : ℕ) → IsTrue (is_written m t p) → HasOneSharer m t p
-  pub counted : used_frames m + m.spare ≤ m.frames
+  pub frames_counted : used_frames m ≤ m.frames
+  pub leaves_counted : used_leaves m ≤ m.leaf_count
+  pub spare_is : m.spare ≡ min (m.frames - used_frames m) (m.leaf_count - used_leaves m)
+  pub reads_fit : m.reads < 2 ^ 64
   pub leaf_there : (t p : ℕ) → IsTrue (is_mapped m t p) → IsTrue (is_some (leaf_in m t (leaf_index p)))
   pub leaf_filled : (t i l : ℕ) → leaf_in m t i ≡ Some l → (p : ℕ) × (leaf_index p ≡ i) × IsTrue (is_mapped m t p)
   pub same_leaf : (t i u j l : ℕ) → leaf_in m t i ≡ Some l → leaf_in m u j ≡ Some l

@@ -1,5 +1,5 @@
 -- Frames, leaves that share frames, and tables that share leaves; what they show. No public clause cites this module.
-use Rattle.std.specs.Prelude.{◌≡◌, ◌≢◌, ℕ, ◌+◌, ◌<◌, ◌/◌, ◌%◌, if◌then◌else◌, List, [], ◌∷◌, ◌++◌, length, map, replicate, min, All, Option, Some, None, slice_index_or, true, is_some, IsTrue}
+use Rattle.std.specs.Prelude.{◌≡◌, ◌≢◌, ℕ, ◌+◌, ◌<◌, ◌/◌, ◌%◌, ◌^◌, if◌then◌else◌, List, [], ◌∷◌, ◌++◌, length, map, replicate, min, All, Option, Some, None, slice_index_or, true, is_some, IsTrue}
 use Rattle.model_numbers.specs.Numbers.{page_bytes}
 use Rattle.sharers.specs.Shares.{count_of, AreTallied}
 use Rattle.cow_pages.specs.Address.{is_in_window, leaf_pages, table_leaves}
@@ -86,6 +86,7 @@ pub record IsKept (s : Store) : Type 0 where
 -- there is a count for each frame and table, a live table has its places, and frames have their bytes
 pub record HasRoom (s : Store) : Type 0 where
   pub frames : length s.frame_counts.counts ≡ length s.frames.items
+  pub reads : s.reads < 2 ^ 64
   pub tables : length s.table_counts.counts ≡ length s.tables.items
   pub frames_tallied : AreTallied s.frame_counts
   pub leaves_tallied : AreTallied s.leaf_counts
@@ -180,6 +181,7 @@ shown s = record {
   tables = map (shown_table s) s.tables.items;
   leaves = table_grid s;
   frames = length s.frames.items;
+  leaf_count = length s.leaves.items;
   spare = spare_of s;
   reads = s.reads;
 }

@@ -40,7 +40,7 @@ impl Frames {
     /// No table and no frame. Takes no memory.
     pub fn new(alloc: Global) -> Frames
         ensures tables { (t : ℕ) → is_live result t ≡ false }
-        ensures frames { result.frames ≡ 0 }
+        ensures frames { (result.frames ≡ 0) × (result.leaf_count ≡ 0) }
         ensures reads { result.reads ≡ 0 }
         ensures sound { IsSound result }
     {
@@ -70,9 +70,10 @@ impl Frames {
     pub fn reserve(&mut self, k: usize) -> Result<(), AllocError>
         ensures room { OnOk result (k ≤ self.new.spare) }
         ensures no_more { OnOk result (self.new.spare ≡ max self.old.spare k) }
-        ensures rest { self.new ≡ record self.old { frames = self.new.frames; spare = self.new.spare } }
+        ensures frames { OnOk result (self.new.frames ≡ max self.old.frames (used_frames self.old + k)) }
+        ensures leaves { OnOk result (self.new.leaf_count ≡ max self.old.leaf_count (used_leaves self.old + k)) }
+        ensures rest { self.new ≡ record self.old { frames = self.new.frames; leaf_count = self.new.leaf_count; spare = self.new.spare } }
         ensures all_seen { AllSeen self.old self.new }
-        ensures frames { self.old.frames ≤ self.new.frames }
         ensures enough { k ≤ self.old.spare → IsOk result × (self.new ≡ self.old) }
         ensures err { OnErr result (self.new ≡ self.old) }
         ensures sound { IsSound self.new }
@@ -91,14 +92,15 @@ impl Frames {
     /// How many frames are not free: those that some entry has.
     pub fn used(&self) -> usize
         ensures value { result ≡ used_frames self.now }
-        ensures rest { result + self.now.spare ≤ self.now.frames }
+        ensures sound { IsSound self.now }
     {
         self.store.frames.len() - self.store.frame_counts.spare()
     }
 
     /// How many leaves are not free: those that some table has.
     pub fn leaves_used(&self) -> usize
-        ensures { result ≡ used_leaves self.now }
+        ensures value { result ≡ used_leaves self.now }
+        ensures sound { IsSound self.now }
     {
         self.store.leaves.len() - self.store.leaf_counts.spare()
     }

@@ -1,11 +1,11 @@
 //! Laws about what contracts see: they hold of every memory that is sound.
 ghost use Rattle.std.specs.Prelude.{◌≡◌, ◌≢◌, ◌⊎◌, ℕ, List, length, Some, None, IsTrue};
 ghost use Rattle.cow_pages.specs.declared.address.Window.{Window};
-ghost use Rattle.cow_pages.specs.Memory.{Memory, IsSound, HasOneSharer, IsFree, page_at, frame_at, is_live, is_mapped, used_frames};
+ghost use Rattle.cow_pages.specs.Memory.{Memory, IsSound, HasOneSharer, IsFree, page_at, frame_at, is_live, is_mapped, used_frames, used_leaves};
 ghost use Rattle.cow_pages.specs.Change.{ChangesPage, ChangesTable, MapsZeros, WritesPage, settled};
 ghost use Rattle.cow_pages.specs.Only.{OnlyTable};
 ghost use Rattle.cow_pages.specs.View.{View, view_of};
-ghost use Rattle.cow_pages.specs.Laws.{IsPaged, HasNumbers, CountsPages, AreUsed, ShareLeaves};
+ghost use Rattle.cow_pages.specs.Laws.{IsPaged, HasNumbers, CountsPages, AreUsed, AreUsedLeaves, ShareLeaves};
 
 /// Each byte of a table is below 256, and 0 where no page is. The addresses of a page are mapped together.
 pub fn views_are_paged()
@@ -32,6 +32,11 @@ pub fn one_sharer_stays()
 /// As many frames are used as there are different frames with an entry.
 pub fn used_frames_have_entries()
     ensures { (m : Memory) (fs : List ℕ) → IsSound m → AreUsed m fs → used_frames m ≡ length fs }
+{}
+
+/// As many leaves are used as there are different ones that a table has.
+pub fn used_leaves_have_tables()
+    ensures { (m : Memory) (ls : List ℕ) → IsSound m → AreUsedLeaves m ls → used_leaves m ≡ length ls }
 {}
 
 /// Pages of one table stand in one leaf exactly where their numbers divided by 1,024 are equal. A leaf that two tables
@@ -64,10 +69,15 @@ pub fn calls_change_only_a_table()
     ensures settling { (old new : Memory) (t : ℕ) → ChangesTable old new t → IsTrue (is_live old t) → IsTrue (is_live new t)
         → ((p : ℕ) → page_at new t p ≡ settled (page_at old t p)) → OnlyTable old new t }
     ensures reading { (old new : Memory) (t n : ℕ) → new ≡ record old { reads = n } → OnlyTable old new t }
-    ensures reserving { (old new : Memory) (t : ℕ) → new ≡ record old { frames = new.frames; spare = new.spare } → OnlyTable old new t }
+    ensures reserving { (old new : Memory) (t : ℕ) → new ≡ record old { frames = new.frames; leaf_count = new.leaf_count; spare = new.spare } → OnlyTable old new t }
 {}
 
-/// An entry that kept its frame, or got another, and had no other sharer has none.
+/// An entry that had no other sharer, and kept its frame or got another, has none, whatever one table did: its own table
+/// or another one. So it is where another table ends, and where one joins with the pages of another.
 pub fn alone_stays_alone()
-    ensures { (old new : Memory) (t p f : ℕ) → OnlyTable old new t → HasOneSharer old t p → frame_at new t p ≡ Some f → HasOneSharer new t p }
+    ensures only { (old new : Memory) (t u p f : ℕ) → OnlyTable old new t → HasOneSharer old u p → frame_at new u p ≡ Some f → HasOneSharer new u p }
+    ensures ended { (old new : Memory) (t u p : ℕ) → ChangesTable old new t → ((q : ℕ) → page_at new t q ≡ None) → IsTrue (is_mapped new u p)
+        → HasOneSharer old u p → HasOneSharer new u p }
+    ensures forked { (old new : Memory) (t v u p : ℕ) → ChangesTable old new v → ((q : ℕ) → page_at new v q ≡ page_at old t q) → u ≢ t → u ≢ v
+        → IsTrue (is_mapped old u p) → HasOneSharer old u p → HasOneSharer new u p }
 {}

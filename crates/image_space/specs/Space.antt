@@ -51,10 +51,11 @@ pub record Places (old new : Space) (at size : ℕ) : Type 0 where
   pub fill : new.fill ≡ old.fill + size
   pub starts : (q : ℕ) → is_marked new.starts q ≡ (q == at || is_marked old.starts q)
 
--- no page of any table changed, and no fewer frames are free
+-- nothing changed but that more frames and leaves may be free
 pub record KeepsPages (old new : Memory) : Type 0 where
-  pub tables : new.tables ≡ old.tables
-  pub reads : new.reads ≡ old.reads
+  pub rest : new ≡ record old { frames = new.frames; leaf_count = new.leaf_count; spare = new.spare }
+  pub frames : old.frames ≤ new.frames
+  pub leaf_count : old.leaf_count ≤ new.leaf_count
   pub spare : old.spare ≤ new.spare
 
 -- the addresses of objects of these sizes, each directly behind the one before, from an address on

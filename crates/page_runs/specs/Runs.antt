@@ -1,6 +1,7 @@
 -- Pages one directly behind the other.
-use Rattle.std.specs.Prelude.{◌≡◌, ◌≢◌, ◌⊎◌, ℕ, ◌+◌, ◌<◌, ◌≤◌, false, true, None}
-use Rattle.cow_pages.specs.Address.{page_of}
+use Rattle.std.specs.Prelude.{◌≡◌, ◌≢◌, ◌⊎◌, ◌&&◌, ℕ, ◌+◌, ◌-◌, ◌<◌, ◌≤◌, false, true, None, IsTrue, nat_le, nat_lt}
+use Rattle.cow_pages.specs.declared.address.Window.{Window}
+use Rattle.cow_pages.specs.Address.{is_in, page_of}
 use Rattle.cow_pages.specs.Memory.{Memory, page_at, is_live, is_mapped, used_frames, HasOneSharer}
 use Rattle.cow_pages.specs.Change.{MapsZeros}
 use Rattle.cow_pages.specs.View.{View}
@@ -18,6 +19,10 @@ pub record IsInRun (first n p : ℕ) : Type 0 where
 abbrev pub IsBeside : ℕ → ℕ → ℕ → ℕ → ℕ → Type 0
 IsBeside t first n u q = (u ≢ t) ⊎ ((q < first) ⊎ (first + n ≤ q))
 
+-- of a window's pages a table has exactly these
+abbrev pub HasRun : Memory → ℕ → Window → ℕ → ℕ → Type 0
+HasRun m t w first n = (p : ℕ) → IsTrue (is_in w p) → is_mapped m t p ≡ (nat_le first p && nat_lt p (first + n))
+
 -- exactly these pages of a table were mapped: they have zeros, no flag, and frames that no entry had
 pub record MapsRun (old new : Memory) (t first n : ℕ) : Type 0 where
   pub fresh : (p : ℕ) → IsInRun first n p → is_mapped old t p ≡ false
@@ -30,6 +35,9 @@ pub record MapsRun (old new : Memory) (t first n : ℕ) : Type 0 where
   pub reads : new.reads ≡ old.reads
   -- no more is taken of what was free than there are pages
   pub spare : old.spare ≤ new.spare + n
+  -- no frame and no leaf was made but for want of one that was free
+  pub frames : new.frames ≤ old.frames + (n - old.spare)
+  pub leaf_count : new.leaf_count ≤ old.leaf_count + (n - old.spare)
   -- and as many more frames have entries
   pub used : used_frames new ≡ used_frames old + n
 
@@ -40,6 +48,7 @@ pub record ReleasesRun (old new : Memory) (t first n : ℕ) : Type 0 where
   pub live : (u : ℕ) → is_live new u ≡ is_live old u
   pub reads : new.reads ≡ old.reads
   pub frames : new.frames ≡ old.frames
+  pub leaf_count : new.leaf_count ≡ old.leaf_count
   pub spare : old.spare ≤ new.spare
   pub used : used_frames new + n ≡ used_frames old
 
