@@ -166,16 +166,16 @@ pub released_stays : (s m : Store) (t p l : ℕ) → IsStore s → IsReady m t (
 released_stays s m t p l store ready un some =
     let also = store_of m t (p / 1024) l ready some in
     record {
-  store = also;
-  unmapped = page_at-shown m ready.kept t p ∙ ap (option_map (page_of_entry m)) un.entries.here;
-  rest = unmapped_page s m t p store.kept ready.kept un;
-  leaf = record {
-    others = λ u j off. ap (λ (g : List Row). cell g u j) un.grid;
-    here = inl (ap (λ (g : List Row). cell g t (p / 1024)) un.grid, ap (λ (g : List Row). distinct_count (leaves_of g)) un.grid);
-  };
-  room = frees_frames s m store also un.beside.len (ap (λ (it : Shares). length it.counts) un.leaves) (omega (arith, un.spare)) (omega (arith, ap (λ (it : Shares). it.spare) un.leaves));
-  freed = omega (arith, counted s store.kept store.room, counted m ready.kept ready.room, un.spare, un.beside.len);
-}
+      store = also;
+      unmapped = page_at-shown m ready.kept t p ∙ ap (option_map (page_of_entry m)) un.entries.here;
+      rest = unmapped_page s m t p store.kept ready.kept un;
+      leaf = record {
+        others = λ u j off. ap (λ (g : List Row). cell g u j) un.grid;
+        here = inl (ap (λ (g : List Row). cell g t (p / 1024)) un.grid, ap (λ (g : List Row). distinct_count (leaves_of g)) un.grid);
+      };
+      room = frees_frames s m store also un.beside.len (ap (λ (it : Shares). length it.counts) un.leaves) (omega (arith, un.spare)) (omega (arith, ap (λ (it : Shares). it.spare) un.leaves));
+      freed = omega (arith, counted s store.kept store.room, counted m ready.kept ready.room, un.spare, un.beside.len);
+    }
 
 -- the leaf went too
 pub released_leaves : (s m new : Store) (t p l : ℕ) → IsStore s → IsReady m t (p / 1024) l → Unmaps s m t p → IsStore new → LeavesPlace m new t (p / 1024) l → new.leaf_counts.spare ≡ m.leaf_counts.spare + 1

@@ -15,7 +15,7 @@ use Rattle.cow_pages.specs.Counts.{count_in}
 use Rattle.cow_pages.specs.Leaf.{cleared}
 use Rattle.cow_pages.specs.Tables.{mapped_from, written_from}
 use Rattle.cow_pages.specs.Grid.{cell, held}
-use Rattle.cow_pages.specs.Store.{Row, frame_key, leaf_grid, table_grid, table_entries, bytes_of, frame_sharers, leaf_sharers, pages_kept, place_at, entry_in, entry_at, page_of_entry, mapped_counts, written_counts, mapped_kept, written_kept, shown, spare_of, CountsSlots, IsCounted, HasPages, IsKept, IsStore}
+use Rattle.cow_pages.specs.Store.{Row, frame_key, leaf_grid, table_grid, table_entries, bytes_of, frame_sharers, leaf_sharers, pages_kept, place_at, entry_in, entry_at, page_of_entry, mapped_counts, written_counts, mapped_kept, written_kept, shown, CountsSlots, IsCounted, HasPages, IsKept, IsStore}
 use Rattle.cow_pages.specs.Steps.{SetsLeaf, KeepsTables, SameEntries, SettlesLeaf, Settling, ClearsWritten}
 use Rattle.cow_pages.proofs.LeafLemmas.{cleared-at, mapped-cleared, written-cleared}
 use Rattle.cow_pages.proofs.SharedLemmas.{leaf_held, leaf_within, leaf_length, shared_leaf}

@@ -1,6 +1,6 @@
 -- A store to which a table joined.
 use Rattle.std.proofs.Common.{◌≡◌, ◌≢◌, ℕ, zero, suc, ◌+◌, ◌*◌, ◌^◌, ◌<◌, ◌≤◌, ◌/◌, ◌%◌, ◌++◌, cond, false, List, [], ◌∷◌, length, map, get_or, set, Some, None, Option, is_some, IsTrue, refl, sym, ap, subst, ◌∙◌, inl, inr, arith}
-use Rattle.std.specs.Prelude.{All, replicate, min, option_map}
+use Rattle.std.specs.Prelude.{All, replicate, option_map}
 use Rattle.std.proofs.lemmas.List.{length-append, length-replicate, length-map, length-set, map-set, get_or-map, get_or-set_same, get_or-set_other}
 use Rattle.std.proofs.lemmas.Bool.{cases_eq}
 use Rattle.std.proofs.lemmas.Option.{none-some}
