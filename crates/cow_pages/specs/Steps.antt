@@ -212,7 +212,7 @@ pub record SetsFrameCounts (s new : Store) : Type 0 where
   pub len : length new.frame_counts.counts ≡ length s.frame_counts.counts
   pub tallied : AreTallied new.frame_counts
 
--- as many frames are free, and at most one leaf less
+-- there are as many leaves, as many frames are free, and at most one leaf less
 pub record KeepsRoomOf (s new : Store) : Type 0 where
   pub len : length new.leaf_counts.counts ≡ length s.leaf_counts.counts
   pub frames : new.frame_counts.spare ≡ s.frame_counts.spare
