@@ -1,9 +1,9 @@
 -- What calls for one table change is that table alone.
-use Rattle.std.proofs.Common.{◌≡◌, ◌≢◌, ◌⊎◌, ℕ, List, Option, Some, None, option_map, refl, sym, ap, subst, IsTrue, ◌∙◌, inl, inr}
+use Rattle.std.proofs.Common.{◌≡◌, ◌≢◌, ◌⊎◌, ℕ, List, Option, Some, None, option_map, refl, sym, ap, subst, is_some, true≢false, IsTrue, ◌∙◌, inl, inr}
 use Rattle.std.proofs.lemmas.Bool.{cases_eq}
 use Rattle.std.proofs.lemmas.Option.{none-some, same_Some}
 use Rattle.cow_pages.specs.Address.{page_of}
-use Rattle.cow_pages.specs.Memory.{Memory, Page, page_at, frame_at, is_live, HasOneSharer, IsFree}
+use Rattle.cow_pages.specs.Memory.{Memory, Page, page_at, frame_at, is_live, is_mapped, HasOneSharer, IsFree}
 use Rattle.cow_pages.specs.Change.{ChangesPage, ChangesTable, MapsZeros, WritesPage, KeepsOrCopies, settled}
 use Rattle.cow_pages.proofs.LawLemmas.{one_from_free}
 use Rattle.cow_pages.specs.Only.{OnlyTable}
@@ -11,9 +11,9 @@ use Rattle.cow_pages.specs.Only.{OnlyTable}
 pub other-frame : (old new : Memory) (t u q : ℕ) → OnlyTable old new t → u ≢ t → frame_at new u q ≡ frame_at old u q
 other-frame old new t u q only apart = ap (option_map (λ (page : Page). page.frame)) (only.others u q apart)
 
--- an entry that was alone and is still mapped is alone
-pub alone-stays : (old new : Memory) (t p f : ℕ) → OnlyTable old new t → HasOneSharer old t p → frame_at new t p ≡ Some f → HasOneSharer new t p
-alone-stays old new t p f only was now = by (only.own p f now)
+-- an entry of the table that was alone and is still mapped is alone
+pub own-stays : (old new : Memory) (t p f : ℕ) → OnlyTable old new t → HasOneSharer old t p → frame_at new t p ≡ Some f → HasOneSharer new t p
+own-stays old new t p f only was now = by (only.own p f now)
   where
     by : (frame_at old t p ≡ Some f) ⊎ HasOneSharer new t p → HasOneSharer new t p
     by (inr alone) = alone
@@ -29,6 +29,58 @@ alone-stays old new t p f only was now = by (only.own p f now)
             let here : frame_at new t q ≡ Some f = ap (λ n. frame_at new n q) (sym equal) ∙ is in
             (equal, by_own q here (only.own q f here))
 
+-- and so is an entry of another table
+pub other-stays : (old new : Memory) (t u p f : ℕ) → OnlyTable old new t → u ≢ t → HasOneSharer old u p → frame_at new u p ≡ Some f → HasOneSharer new u p
+other-stays old new t u p f only apart was now v q same = by_table v q (same ∙ now) (cases_eq v t)
+  where
+    had : frame_at old u p ≡ Some f
+    had = sym (other-frame old new t u p only apart) ∙ now
+
+    by_own : (q : ℕ) → frame_at new t q ≡ Some f → (frame_at old t q ≡ Some f) ⊎ HasOneSharer new t q → ⊥
+    by_own q is (inl kept) = apart (sym (was t q (kept ∙ sym had)).0)
+    by_own q is (inr alone) = apart (alone u p (now ∙ sym is)).0
+
+    by_table : (v q : ℕ) → frame_at new v q ≡ Some f → (v ≡ t) ⊎ (v ≢ t) → (v ≡ u) × (q ≡ p)
+    by_table v q is (inr aside) = was v q (sym (other-frame old new t v q only aside) ∙ is ∙ sym had)
+    by_table v q is (inl equal) =
+        let here : frame_at new t q ≡ Some f = ap (λ n. frame_at new n q) (sym equal) ∙ is in
+        absurd (by_own q here (only.own q f here))
+
+-- an entry that was alone and is still mapped is alone, whichever table changed
+pub alone-stays : (old new : Memory) (t u p f : ℕ) → OnlyTable old new t → HasOneSharer old u p → frame_at new u p ≡ Some f → HasOneSharer new u p
+alone-stays old new t u p f only was now = elim (cases_eq u t) [
+  | inl equal ↦ subst (λ n. HasOneSharer new n p) (sym equal)
+      (own-stays old new t p f only (subst (λ n. HasOneSharer old n p) equal was) (ap (λ n. frame_at new n p) (sym equal) ∙ now))
+  | inr apart ↦ other-stays old new t u p f only apart was now
+]
+
+-- a table that changed apart from this entry, and has its frame nowhere, leaves it alone
+pub aside-stays : (old new : Memory) (t u p : ℕ) → ChangesTable old new t → u ≢ t → ((q : ℕ) → frame_at new t q ≢ frame_at new u p) → HasOneSharer old u p → HasOneSharer new u p
+aside-stays old new t u p rest apart nowhere was v q same = by_table (cases_eq v t)
+  where
+    as_before : (w r : ℕ) → w ≢ t → frame_at new w r ≡ frame_at old w r
+    as_before w r aside = ap (option_map (λ (page : Page). page.frame)) (rest.others w r aside)
+
+    by_table : (v ≡ t) ⊎ (v ≢ t) → (v ≡ u) × (q ≡ p)
+    by_table (inr aside) = was v q (sym (as_before v q aside) ∙ same ∙ as_before u p apart)
+    by_table (inl equal) = absurd (nowhere q (ap (λ n. frame_at new n q) (sym equal) ∙ same))
+
+-- where another table ended
+pub ended-stays : (old new : Memory) (t u p : ℕ) → ChangesTable old new t → ((q : ℕ) → page_at new t q ≡ None) → IsTrue (is_mapped new u p) → HasOneSharer old u p → HasOneSharer new u p
+ended-stays old new t u p rest none mapped = aside-stays old new t u p rest apart (λ q same. nothing (page_at new u p) mapped (sym same ∙ ap (option_map (λ (page : Page). page.frame)) (none q)))
+  where
+    apart : u ≢ t
+    apart equal = true≢false (sym mapped ∙ ap (λ n. is_mapped new n p) equal ∙ ap is_some (none p))
+
+    nothing : (o : Option Page) → IsTrue (is_some o) → option_map (λ (page : Page). page.frame) o ≡ None → ⊥
+    nothing None is same = true≢false (sym is)
+    nothing (Some page) is same = none-some page.frame (sym same)
+
+-- where a table joined with the pages of another
+pub forked-stays : (old new : Memory) (t v u p : ℕ) → ChangesTable old new v → ((q : ℕ) → page_at new v q ≡ page_at old t q) → u ≢ t → u ≢ v → IsTrue (is_mapped old u p) → HasOneSharer old u p → HasOneSharer new u p
+forked-stays old new t v u p rest copied aside apart mapped was = aside-stays old new v u p rest apart (λ q same.
+    aside (sym (was t q (sym (ap (option_map (λ (page : Page). page.frame)) (copied q)) ∙ same ∙ ap (option_map (λ (page : Page). page.frame)) (rest.others u p apart))).0)) was
+
 pub only-refl : (m : Memory) (t : ℕ) → OnlyTable m m t
 only-refl m t = record { others = λ u q apart. refl; live = λ u. refl; own = λ p f is. inl is }
 
@@ -41,7 +93,7 @@ only-trans one two three t x y = record {
   where
     by_first : (p f : ℕ) → frame_at three t p ≡ Some f → (frame_at one t p ≡ Some f) ⊎ HasOneSharer two t p → (frame_at one t p ≡ Some f) ⊎ HasOneSharer three t p
     by_first p f is (inl had) = inl had
-    by_first p f is (inr alone) = inr (alone-stays two three t p f y alone is)
+    by_first p f is (inr alone) = inr (own-stays two three t p f y alone is)
 
     by : (p f : ℕ) → frame_at three t p ≡ Some f → (frame_at two t p ≡ Some f) ⊎ HasOneSharer three t p → (frame_at one t p ≡ Some f) ⊎ HasOneSharer three t p
     by p f is (inl had) = by_first p f is (x.own p f had)
@@ -109,7 +161,7 @@ write-alone old new t at bytes w alone = by w.frame_is
     by (inr copied) = let u = copied.0 in absurd (u.1 (alone u.0 (page_of at) u.2).0)
 
 -- a reserve
-pub only-reserved : (old new : Memory) (t : ℕ) → new ≡ record old { frames = new.frames; spare = new.spare } → OnlyTable old new t
+pub only-reserved : (old new : Memory) (t : ℕ) → new ≡ record old { frames = new.frames; leaf_count = new.leaf_count; spare = new.spare } → OnlyTable old new t
 only-reserved old new t is =
     subst (λ (m : Memory). OnlyTable old m t) (sym is) (record { others = λ u q apart. refl; live = λ u. refl; own = λ p f same. inl same })
 

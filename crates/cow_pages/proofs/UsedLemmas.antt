@@ -1,11 +1,12 @@
 -- How many frames and leaves are used.
-use Rattle.std.proofs.Common.{◌≡◌, ℕ, zero, suc, ◌+◌, ◌<◌, ◌≤◌, Bool, false, cond, List, [], ◌∷◌, length, get_or, Some, refl, sym, ap, ◌∙◌, inl, inr, arith, eqb, ◌||◌, Contains}
+use Rattle.std.proofs.Common.{◌≡◌, ℕ, zero, suc, ◌+◌, ◌<◌, ◌≤◌, Bool, false, cond, List, [], ◌∷◌, length, get_or, Option, Some, None, refl, sym, ap, ◌∙◌, inl, inr, arith, eqb, ◌||◌, Contains}
 use Rattle.std.specs.Prelude.{nat_eq}
 use Rattle.std.specs.List.{list_any, IsDistinct, AllByRecursion}
 use Rattle.std.proofs.lemmas.Bool.{cases_eq, cases_lt, eq-eqb, eqb-false, ne_eqb, cond-true, cond-false}
-use Rattle.cow_pages.specs.Memory.{Memory, frame_at, frames_of, used_frames, distinct_count, IsSound}
-use Rattle.cow_pages.specs.Laws.{AreUsed}
-use Rattle.cow_pages.proofs.HolderLemmas.{holders, count-step, holders-yes, holders-no, absent, absent-step, distinct_and_absent, all_below, entry_with, holders-entries}
+use Rattle.std.proofs.lemmas.Option.{none-some, same_Some}
+use Rattle.cow_pages.specs.Memory.{Memory, frames_of, row_leaves, leaves_of, used_frames, used_leaves, distinct_count, IsSound}
+use Rattle.cow_pages.specs.Laws.{AreUsed, AreUsedLeaves}
+use Rattle.cow_pages.proofs.HolderLemmas.{holders, count-step, holders-yes, holders-no, holders-append, absent, absent-step, distinct_and_absent, all_below, entry_with, holders-entries}
 
 -- lists with the same members have as many different ones
 pub absent-same : (xs ys : List ℕ) (k n : ℕ) → ((f : ℕ) → 1 ≤ holders xs f → 1 ≤ holders ys f) → ((f : ℕ) → 1 ≤ holders ys f → 1 ≤ holders xs f) → absent xs k n ≡ absent ys k n
@@ -58,19 +59,73 @@ member-holders (x ∷ xs) f some =
           (suc later.0, omega (arith, later.1), later.2)
     ]
 
+-- above each number of a list
+abbrev pub bound_of : List ℕ → ℕ
+bound_of [] = 0
+bound_of (x ∷ xs) = x + 1 + bound_of xs
+
+pub below_bound : (xs : List ℕ) (f : ℕ) → 1 ≤ holders xs f → f < bound_of xs
+below_bound [] f some = absurd (omega (arith, some))
+below_bound (x ∷ xs) f some =
+    elim (cases_eq x f) [
+      | inl same ↦ omega (arith, same)
+      | inr apart ↦ omega (arith, below_bound xs f (omega (arith, some, holders-no xs x f apart)))
+    ]
+
+-- the different numbers of a list are as many as there are in a list of the same members without repeats
+pub members-length : (all xs : List ℕ) → ((f : ℕ) → 1 ≤ holders all f → Contains xs f) → ((f : ℕ) → Contains xs f → 1 ≤ holders all f) → IsDistinct nat_eq xs
+    → distinct_count all ≡ length xs
+members-length all xs one other differ =
+    let n = bound_of all in
+    let there : (f : ℕ) → 1 ≤ holders all f → 1 ≤ holders xs f = λ f some. let c = one f some in holders-member xs c.0 f c.1 c.2 in
+    let back : (f : ℕ) → 1 ≤ holders xs f → 1 ≤ holders all f = λ f some. other f (member-holders xs f some) in
+    let a = distinct_and_absent all n (all_below n all (below_bound all)) in
+    let b = distinct_and_absent xs n (all_below n xs (λ f some. below_bound all f (back f some))) in
+    omega (arith, a, b, absent-same all xs 0 n there back, distinct-length xs differ)
+
 pub used-length : (m : Memory) (fs : List ℕ) → IsSound m → AreUsed m fs → used_frames m ≡ length fs
-used-length m fs sound used =
-    let all = frames_of m.tables in
-    let from : (f : ℕ) → 1 ≤ holders all f → (t : ℕ) × (p : ℕ) × (frame_at m t p ≡ Some f) = λ f some.
-    let e = entry_with m.tables f sound.rising some in (e.table, e.page.number, e.page.is) in
-    let one : (f : ℕ) → 1 ≤ holders all f → 1 ≤ holders fs f = λ f some.
-    let e = from f some in
-    let c = used.all e.0 e.1 f e.2 in
-    holders-member fs c.0 f c.1 c.2 in
-    let other : (f : ℕ) → 1 ≤ holders fs f → 1 ≤ holders all f = λ f some.
-    let e = used.used f (member-holders fs f some) in
-    holders-entries m.tables e.0 e.1 f e.2 in
-    let below : (f : ℕ) → 1 ≤ holders all f → f < m.frames = λ f some. let e = from f some in sound.in_range e.0 e.1 f e.2 in
-    let a = distinct_and_absent all m.frames (all_below m.frames all below) in
-    let b = distinct_and_absent fs m.frames (all_below m.frames fs (λ f some. below f (other f some))) in
-    omega (arith, a, b, absent-same all fs 0 m.frames one other, distinct-length fs used.differ)
+used-length m fs sound used = members-length (frames_of m.tables) fs
+    (λ f some. let e = entry_with m.tables f sound.rising some in used.all e.table e.page.number f e.page.is)
+    (λ f among. let e = used.used f among in holders-entries m.tables e.0 e.1 f e.2)
+    used.differ
+
+-- LEAVES
+
+pub holders-place : (row : List (Option ℕ)) (i l : ℕ) → get_or row i None ≡ Some l → 1 ≤ holders (row_leaves row) l
+holders-place [] i l is = absurd (none-some l is)
+holders-place (None ∷ rest) zero l is = absurd (none-some l is)
+holders-place (Some k ∷ rest) zero l is = omega (arith, holders-yes (row_leaves rest) k l (same_Some k l is))
+holders-place (None ∷ rest) (suc i) l is = holders-place rest i l is
+holders-place (Some k ∷ rest) (suc i) l is = omega (arith, holders-place rest i l is, count-step (λ x. eqb x l) k (row_leaves rest))
+
+-- a leaf of a table is one of all
+pub holders-places : (rows : List (List (Option ℕ))) (t i l : ℕ) → get_or (get_or rows t []) i None ≡ Some l → 1 ≤ holders (leaves_of rows) l
+holders-places [] t i l is = absurd (none-some l is)
+holders-places (row ∷ rest) zero i l is = omega (arith, holders-place row i l is, holders-append (row_leaves row) (leaves_of rest) l)
+holders-places (row ∷ rest) (suc t) i l is = omega (arith, holders-places rest t i l is, holders-append (row_leaves row) (leaves_of rest) l)
+
+pub place_with : (row : List (Option ℕ)) (l : ℕ) → 1 ≤ holders (row_leaves row) l → (i : ℕ) × (get_or row i None ≡ Some l)
+place_with [] l some = absurd (omega (arith, some))
+place_with (None ∷ rest) l some = let later = place_with rest l some in (suc later.0, later.1)
+place_with (Some k ∷ rest) l some =
+    elim (cases_eq k l) [
+      | inl same ↦ (0, ap Some same)
+      | inr apart ↦ let later = place_with rest l (omega (arith, some, holders-no (row_leaves rest) k l apart)) in (suc later.0, later.1)
+    ]
+
+-- a table and an index with the leaf
+pub leaf_with : (rows : List (List (Option ℕ))) (l : ℕ) → 1 ≤ holders (leaves_of rows) l → (t : ℕ) × (i : ℕ) × (get_or (get_or rows t []) i None ≡ Some l)
+leaf_with [] l some = absurd (omega (arith, some))
+leaf_with (row ∷ rest) l some =
+    elim (cases_lt 0 (holders (row_leaves row) l)) [
+      | inl here ↦ let place = place_with row l (omega arith) in (0, place.0, place.1)
+      | inr none ↦
+          let later = leaf_with rest l (omega (arith, some, none, holders-append (row_leaves row) (leaves_of rest) l)) in
+          (suc later.0, later.1, later.2)
+    ]
+
+pub used_leaves-length : (m : Memory) (ls : List ℕ) → AreUsedLeaves m ls → used_leaves m ≡ length ls
+used_leaves-length m ls used = members-length (leaves_of m.leaves) ls
+    (λ l some. let e = leaf_with m.leaves l some in used.all e.0 e.1 l e.2)
+    (λ l among. let e = used.used l among in holders-places m.leaves e.0 e.1 l e.2)
+    used.differ

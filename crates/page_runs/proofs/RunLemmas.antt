@@ -1,10 +1,10 @@
 -- What mapping or releasing pages, one after the other, does to all pages.
-use Rattle.std.proofs.Common.{◌≡◌, ◌≢◌, ◌⊎◌, ◌∙◌, ℕ, ◌+◌, ◌<◌, ◌≤◌, IsTrue, true≢false, Option, Some, None, refl, sym, ap, subst, inl, inr, arith}
+use Rattle.std.proofs.Common.{◌≡◌, ◌≢◌, ◌⊎◌, ◌∙◌, ℕ, ◌+◌, ◌-◌, ◌≤◌, max, IsTrue, true≢false, Option, Some, None, refl, sym, ap, subst, inl, inr, arith}
 use Rattle.std.specs.Prelude.{option_map, is_some}
 use Rattle.std.proofs.lemmas.Bool.{cases_eq, cases_lt}
 use Rattle.std.proofs.lemmas.Option.{none-some}
 use Rattle.model_numbers.specs.Numbers.{page_bytes}
-use Rattle.cow_pages.specs.Memory.{Memory, Page, page_at, frame_at, is_live, is_mapped, used_frames, HasOneSharer, IsSound}
+use Rattle.cow_pages.specs.Memory.{Memory, Page, page_at, frame_at, is_live, is_mapped, used_frames, used_leaves, HasOneSharer, IsSound}
 use Rattle.cow_pages.specs.Address.{page_of, offset_of}
 use Rattle.cow_pages.specs.Change.{ChangesPage, MapsZeros, TakesOne, FreesFrames}
 use Rattle.cow_pages.specs.Only.{OnlyTable}
@@ -26,10 +26,16 @@ side t first n u q = elim (cases_eq u t) [
 ]
 
 -- what stands beside a run stands beside a shorter one
-pub beside-shorter : (t first i u q : ℕ) → IsBeside t first (i + 1) u q → IsBeside t first i u q
-beside-shorter t first i u q (inl other) = inl other
-beside-shorter t first i u q (inr (inl below)) = inr (inl below)
-beside-shorter t first i u q (inr (inr behind)) = inr (inr (omega (arith, behind)))
+pub beside-shorter : (t first i k u q : ℕ) → IsBeside t first (i + k) u q → IsBeside t first i u q
+beside-shorter t first i k u q (inl other) = inl other
+beside-shorter t first i k u q (inr (inl below)) = inr (inl below)
+beside-shorter t first i k u q (inr (inr behind)) = inr (inr (omega (arith, behind)))
+
+-- and beside the rest of it
+pub beside-later : (t first i k u q : ℕ) → IsBeside t first (i + k) u q → IsBeside t (first + i) k u q
+beside-later t first i k u q (inl other) = inl other
+beside-later t first i k u q (inr (inl below)) = inr (inl (omega (arith, below)))
+beside-later t first i k u q (inr (inr behind)) = inr (inr (omega (arith, behind)))
 
 -- and is none of the next page
 pub beside-next : (t first i u q : ℕ) → IsBeside t first (i + 1) u q → (u ≢ t) ⊎ (q ≢ first + i)
@@ -52,6 +58,8 @@ pub record IsMapping (old new : Memory) (t first n : ℕ) : Type 0 where
   pub live : (u : ℕ) → is_live new u ≡ is_live old u
   pub reads : new.reads ≡ old.reads
   pub spare : old.spare ≤ new.spare + n
+  pub frames : new.frames ≤ old.frames + (n - old.spare)
+  pub leaf_count : new.leaf_count ≤ old.leaf_count + (n - old.spare)
   pub used : used_frames new ≡ used_frames old + n
 
 -- the pages were not mapped
@@ -65,15 +73,16 @@ mapping-none m t first = record {
   live = λ u. refl;
   reads = refl;
   spare = omega arith;
+  frames = omega arith;
+  leaf_count = omega arith;
   used = omega arith;
 }
 
 -- an entry stays with its frame
-pub frame-stays : (old mid : Memory) (t first n i : ℕ) → AreFresh old t first n → i ≤ n → IsMapping old mid t first i → (u q f : ℕ) → frame_at old u q ≡ Some f → frame_at mid u q ≡ Some f
-frame-stays old mid t first n i fresh within m u q f is = elim (side t first i u q) [
-  | inl apart ↦ frame-same old mid u q (m.others u q apart) ∙ is
-  | inr here ↦
-      absurd (frame-none old t q f (fresh q (record { from = here.1.from; to = omega (arith, here.1.to, within) })) (ap (λ k. frame_at old k q) (sym here.0) ∙ is))
+pub frame-stays : (old mid : Memory) (t first n : ℕ) → AreFresh old t first n → ((u q : ℕ) → IsBeside t first n u q → page_at mid u q ≡ page_at old u q) → (u q f : ℕ) → frame_at old u q ≡ Some f → frame_at mid u q ≡ Some f
+frame-stays old mid t first n fresh others u q f is = elim (side t first n u q) [
+  | inl apart ↦ frame-same old mid u q (others u q apart) ∙ is
+  | inr here ↦ absurd (frame-none old t q f (fresh q here.1) (ap (λ k. frame_at old k q) (sym here.0) ∙ is))
 ]
 
 pub mapping-next : (old mid new : Memory) (t first n i : ℕ) → AreFresh old t first n → i ≤ n → IsMapping old mid t first i → MapsZeros mid new t (first + i) → ChangesPage mid new t (first + i) → TakesOne mid new
@@ -82,17 +91,19 @@ mapping-next old mid new t first n i fresh within m z change one = record {
   zeros = λ p in_run. elim (cases_eq p (first + i)) [
     | inl same ↦ subst (MapsZeros old new t) (sym same) (record {
       frame = z.frame;
-      frame_is = λ u q is. z.frame_is u q (frame-stays old mid t first n i fresh within m u q z.frame is);
+      frame_is = λ u q is. z.frame_is u q (frame-stays old mid t first i (λ p here. fresh p (record { from = here.from; to = omega (arith, here.to, within) })) m.others u q z.frame is);
       now = z.now;
     })
     | inr other ↦
         let was = m.zeros p (record { from = in_run.from; to = omega (arith, in_run.to, other) }) in
         record { frame = was.frame; frame_is = was.frame_is; now = change.others t p (inr other) ∙ was.now }
   ];
-  others = λ u q apart. change.others u q (beside-next t first i u q apart) ∙ m.others u q (beside-shorter t first i u q apart);
+  others = λ u q apart. change.others u q (beside-next t first i u q apart) ∙ m.others u q (beside-shorter t first i 1 u q apart);
   live = λ u. change.live u ∙ m.live u;
   reads = change.reads ∙ m.reads;
   spare = omega (arith, m.spare, one.spare);
+  frames = omega (arith, m.spare, m.frames, one.frames);
+  leaf_count = omega (arith, m.spare, m.leaf_count, one.leaf_count);
   used = omega (arith, m.used, one.used);
 }
 
@@ -114,14 +125,23 @@ mapping-all old new t first n m fresh sound = record {
   live = m.live;
   reads = m.reads;
   spare = m.spare;
+  frames = m.frames;
+  leaf_count = m.leaf_count;
   used = m.used;
 }
 
--- the same where frames were made free before
-pub mapping-reserved : (old mid new : Memory) (t first n : ℕ) → mid ≡ record old { frames = mid.frames; spare = mid.spare } → old.spare ≤ mid.spare → MapsRun mid new t first n → MapsRun old new t first n
-mapping-reserved old mid new t first n same spare maps = by (subst (λ (m : Memory). MapsRun m new t first n) same maps)
+-- as much was made free before as was lacking
+pub record Reserved (old mid : Memory) (n : ℕ) : Type 0 where
+  pub rest : mid ≡ record old { frames = mid.frames; leaf_count = mid.leaf_count; spare = mid.spare }
+  pub spare : mid.spare ≡ max old.spare n
+  pub frames : mid.frames ≡ max old.frames (used_frames old + n)
+  pub leaf_count : mid.leaf_count ≡ max old.leaf_count (used_leaves old + n)
+
+-- the same where frames and leaves were made free before
+pub mapping-reserved : (old mid new : Memory) (t first n : ℕ) → IsSound old → Reserved old mid n → MapsRun mid new t first n → MapsRun old new t first n
+mapping-reserved old mid new t first n sound made maps = by (subst (λ (m : Memory). MapsRun m new t first n) made.rest maps)
   where
-    by : MapsRun (record old { frames = mid.frames; spare = mid.spare }) new t first n → MapsRun old new t first n
+    by : MapsRun (record old { frames = mid.frames; leaf_count = mid.leaf_count; spare = mid.spare }) new t first n → MapsRun old new t first n
     by m = record {
       fresh = m.fresh;
       zeros = λ p in_run. let z = m.zeros p in_run in record { frame = z.frame; frame_is = z.frame_is; now = z.now };
@@ -129,7 +149,9 @@ mapping-reserved old mid new t first n same spare maps = by (subst (λ (m : Memo
       others = m.others;
       live = m.live;
       reads = m.reads;
-      spare = omega (arith, m.spare, spare);
+      spare = omega (arith, m.spare, made.spare);
+      frames = omega (arith, m.frames, made.spare, made.frames, sound.spare_is, sound.frames_counted);
+      leaf_count = omega (arith, m.leaf_count, made.spare, made.leaf_count, sound.spare_is, sound.leaves_counted);
       used = m.used;
     }
 
@@ -164,6 +186,7 @@ releasing-none m t first = record {
   live = λ u. refl;
   reads = refl;
   frames = refl;
+  leaf_count = refl;
   spare = omega arith;
   used = omega arith;
 }
@@ -175,10 +198,11 @@ releasing-next old mid new t first i m gone change room used = record {
     | inl same ↦ ap (page_at new t) same ∙ gone
     | inr other ↦ change.others t p (inr other) ∙ m.gone p (record { from = in_run.from; to = omega (arith, in_run.to, other) })
   ];
-  others = λ u q apart. change.others u q (beside-next t first i u q apart) ∙ m.others u q (beside-shorter t first i u q apart);
+  others = λ u q apart. change.others u q (beside-next t first i u q apart) ∙ m.others u q (beside-shorter t first i 1 u q apart);
   live = λ u. change.live u ∙ m.live u;
   reads = change.reads ∙ m.reads;
   frames = room.frames ∙ m.frames;
+  leaf_count = room.leaf_count ∙ m.leaf_count;
   spare = omega (arith, room.spare, m.spare);
   used = omega (arith, used, m.used);
 }

@@ -25,6 +25,8 @@ pub fn map_run(frames: &mut Frames, t: TableNo, first: PageNo, count: u32) -> Re
     ensures err { OnErr result (frames.new ≡ frames.old) }
     ensures sound { IsSound frames.new }
 {
+    // says that the memory is sound before, so that no more is made than is lacking
+    let _spare = frames.spare();
     frames.reserve(count as usize)?;
     map_reserved(frames, t, first, count);
     Ok(())

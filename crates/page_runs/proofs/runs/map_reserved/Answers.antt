@@ -1,5 +1,4 @@
-use Rattle.std.proofs.Common.{◌≡◌, ◌+◌, ◌≤◌, inr, sym, ap, subst, ◌∙◌, arith}
-use Rattle.cow_pages.specs.Memory.{is_live, page_at}
+use Rattle.std.proofs.Common.{◌≡◌, ◌+◌, inr, subst, ◌∙◌, arith}
 use Rattle.page_runs.proofs.RunLemmas.{IsMapping, mapping-none, mapping-next, mapping-all, run-seen, others-seen, run-only}
 use Rattle.page_runs.proofs.runs.map_reserved.Goals as goal
 

@@ -1,4 +1,4 @@
-use Rattle.std.proofs.Common.{◌≡◌, ◌≤◌, ap, refl, ◌∙◌, arith}
+use Rattle.std.proofs.Common.{ap, refl, ◌∙◌}
 use Rattle.cow_pages.specs.Memory.{Memory, is_live, page_at}
 use Rattle.page_runs.specs.Runs.{MapsRun}
 use Rattle.page_runs.proofs.RunLemmas.{mapping-reserved, run-seen, others-seen, run-only}
@@ -16,7 +16,12 @@ returns c =
     let new = c.map_reserved.new.frames in
     let t = c.args.t.0 in
     let all : MapsRun old new t c.args.first.0 c.args.count =
-    mapping-reserved old c.reserve.new.self new t c.args.first.0 c.args.count c.reserve.ensures.rest (omega (arith, c.in_ok-reserve.ensures.no_more)) c.map_reserved.ensures.maps in
+    mapping-reserved old c.reserve.new.self new t c.args.first.0 c.args.count c.spare-spare.ensures.sound (record {
+      rest = c.reserve.ensures.rest;
+      spare = c.in_ok-reserve.ensures.no_more;
+      frames = c.in_ok-reserve.ensures.frames;
+      leaf_count = c.in_ok-reserve.ensures.leaves;
+    }) c.map_reserved.ensures.maps in
     record {
       maps = all;
       view = run-seen old new t c.args.first.0 c.args.count all;
