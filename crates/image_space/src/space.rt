@@ -96,7 +96,6 @@ impl ImageSpace {
         let mapped = pages_up_to(self.fill);
         let count = pages_up_to(fill) - mapped;
         // says that the memory is sound before, so that no more is made than is lacking
-        let _spare = frames.spare();
         frames.reserve(count as usize)?;
         self.starts.grow(fill)?;
         map_reserved(frames, t, PageNo(FIRST_PAGE + mapped), count);

@@ -59,3 +59,6 @@ returns-clause-sound c = sound _ c.reserve.ensures.store
 
 pub returns-clause-no_more : goal.returns-clause-no_more
 returns-clause-no_more c = rw (← c.self.view_is) (on_ok_weaker c.reserve.result (λ (m : AddsRoom c.self.inside.store c.reserve.new.self (c.args.k - c.self.inside.store.frame_counts.spare) (c.args.k - c.self.inside.store.leaf_counts.spare)). omega (arith, ap (λ (it : Memory). it.spare) m.seen)) c.reserve.ensures.made)
+
+pub returns-clause-was_sound : goal.returns-clause-was_sound
+returns-clause-was_sound c = rw (← c.self.view_is) (sound c.self.inside.store c.self.invariant)

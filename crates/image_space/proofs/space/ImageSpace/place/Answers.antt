@@ -23,7 +23,7 @@ returns-clause-maps c =
       frames = c.in_ok-reserve.ensures.frames;
       leaf_count = c.in_ok-reserve.ensures.leaves;
     }) in
-    mapping-reserved c.args.frames.now mid new t (end_page old) (further_pages old (old + c.args.size)) c.spare-spare.ensures.sound made
+    mapping-reserved c.args.frames.now mid new t (end_page old) (further_pages old (old + c.args.size)) c.reserve.ensures.was_sound made
     (subst (λ (k : ℕ). MapsRun mid new t k (further_pages old (old + c.args.size))) first
     (subst (λ (n : ℕ). MapsRun mid new t (131072 + c.pages_up_to-mapped.result) n) count c.map_reserved.ensures.maps))
 
