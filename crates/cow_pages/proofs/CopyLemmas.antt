@@ -4,20 +4,20 @@ use Rattle.std.specs.Prelude.{option_map}
 use Rattle.std.proofs.lemmas.List.{length-set, get_or-set_same, get_or-set_other}
 use Rattle.std.proofs.lemmas.Bool.{cases_eq}
 use Rattle.sharers.specs.Shares.{Shares, AreTallied, count_of}
-use Rattle.cow_pages.specs.declared.address.Window.{Window}
-use Rattle.cow_pages.specs.declared.frame.Frame.{Frame}
-use Rattle.cow_pages.specs.declared.leaf.Entry.{Entry}
+use Rattle.page_tables.specs.declared.address.Window.{Window}
+use Rattle.page_tables.specs.declared.frame.Frame.{Frame}
+use Rattle.page_tables.specs.declared.leaf.Entry.{Entry}
 use Rattle.cow_pages.specs.declared.store.Store.{Store}
-use Rattle.cow_pages.specs.Address.{is_in, leaf_index}
+use Rattle.page_tables.specs.Address.{is_in, leaf_index}
 use Rattle.cow_pages.specs.Change.{ChangesPage, KeepsOrCopies, MapsZeros, OwnsLeaf, TakesFrame, TakesOne, TakesOnCopy}
-use Rattle.cow_pages.specs.Frame.{frame_bytes, frame_of}
-use Rattle.cow_pages.specs.Grid.{one_held}
+use Rattle.page_tables.specs.Frame.{frame_bytes, frame_of}
+use Rattle.page_tables.specs.Grid.{one_held}
 use Rattle.cow_pages.specs.Memory.{Memory, is_live, IsShared}
-use Rattle.cow_pages.specs.Tables.{mapped_one, written_one}
+use Rattle.page_tables.specs.Tables.{mapped_one, written_one}
 use Rattle.cow_pages.specs.Store.{frame_key, leaf_grid, table_grid, bytes_of, frame_sharers, pages_kept, entry_at, page_of_entry, shown, mapped_kept, written_kept, CountsSlots, HasRoom, IsKept, IsStore, IsReady}
 use Rattle.cow_pages.specs.Steps.{SetsOwn, SetsBytes, Recounts, Beside, Ready, AddsRoom, KeepsRoomOf, Maps, OwnsEntry}
-use Rattle.cow_pages.proofs.CodeLemmas.{field-here, field-other}
-use Rattle.cow_pages.proofs.GridLemmas.{one-yes, one-no}
+use Rattle.page_tables.proofs.ListLemmas.{field-here, field-other}
+use Rattle.page_tables.proofs.GridLemmas.{one-yes, one-no}
 use Rattle.cow_pages.proofs.RoomLemmas.{not_shared}
 use Rattle.cow_pages.proofs.CountLemmas.{count-within}
 use Rattle.cow_pages.proofs.SharedLemmas.{frame_held, lone}

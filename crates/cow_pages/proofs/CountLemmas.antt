@@ -4,14 +4,14 @@ use Rattle.std.specs.Prelude.{replicate}
 use Rattle.std.proofs.lemmas.List.{get_or-set_same, get_or-set_other, get_or_past, get_or_append_left, get_or-append_right, length-set}
 use Rattle.std.proofs.lemmas.Bool.{cases_eq, cases_lt}
 use Rattle.sharers.specs.Shares.{Shares, AreTallied, count_of}
-use Rattle.cow_pages.specs.Grid.{one, one_held, held}
-use Rattle.cow_pages.specs.declared.leaf.Entry.{Entry}
-use Rattle.cow_pages.specs.declared.leaf.Leaf.{Leaf}
+use Rattle.page_tables.specs.Grid.{one, one_held, held}
+use Rattle.page_tables.specs.declared.leaf.Entry.{Entry}
+use Rattle.page_tables.specs.declared.leaf.Leaf.{Leaf}
 use Rattle.cow_pages.specs.declared.store.Store.{Store}
 use Rattle.cow_pages.specs.Store.{Row, frame_key, leaf_key, leaf_grid}
 use Rattle.cow_pages.specs.Steps.{SharesSome, UnsharesSome, SharesLeaves}
-use Rattle.cow_pages.proofs.CodeLemmas.{entry_read}
-use Rattle.cow_pages.proofs.GridLemmas.{one-yes, one-no}
+use Rattle.page_tables.proofs.ListLemmas.{entry_read}
+use Rattle.page_tables.proofs.GridLemmas.{one-yes, one-no}
 
 pub count-here : (old new : Shares) (k v : ℕ) → new.counts ≡ set old.counts k v → k < length old.counts → count_of new k ≡ v
 count-here old new k v is within = ap (λ (cs : List ℕ). get_or cs k 0) is ∙ get_or-set_same old.counts k v 0 within
@@ -93,8 +93,8 @@ pub unshares_next : {E : Type 0} (key : E → ℕ) (old mid new : Shares) (row :
     → ((x : ℕ) → count_of mid x + held key (take i row) x ≡ count_of old x) → i < length row → get_or row i None ≡ Some e → 0 < count_of mid (key e)
     → new.counts ≡ set mid.counts (key e) (count_of mid (key e) - 1) → (x : ℕ) → count_of new x + held key (take (i + 1) row) x ≡ count_of old x
 unshares_next key old mid new row i e some room is held less x =
-    let step : Rattle.cow_pages.specs.Grid.held key (take (i + 1) row) x ≡ Rattle.cow_pages.specs.Grid.held key (take i row) x + one (key e) x =
-    held-more key row i x room ∙ ap (λ (o : Option _). Rattle.cow_pages.specs.Grid.held key (take i row) x + one_held key o x) is in
+    let step : Rattle.page_tables.specs.Grid.held key (take (i + 1) row) x ≡ Rattle.page_tables.specs.Grid.held key (take i row) x + one (key e) x =
+    held-more key row i x room ∙ ap (λ (o : Option _). Rattle.page_tables.specs.Grid.held key (take i row) x + one_held key o x) is in
     let within = count-within mid (key e) held in
     elim (cases_eq x (key e)) [
       | inl here ↦

@@ -6,12 +6,12 @@ use Rattle.std.proofs.lemmas.Bool.{cases_eq, cases_lt}
 use Rattle.std.proofs.lemmas.Option.{none-some}
 use Rattle.cow_pages.specs.Memory.{page_at, is_live, frame_at, HasOneSharer, IsFree}
 use Rattle.cow_pages.specs.Change.{ChangesTable}
-use Rattle.cow_pages.specs.declared.leaf.Entry.{Entry}
+use Rattle.page_tables.specs.declared.leaf.Entry.{Entry}
 use Rattle.cow_pages.specs.declared.store.Store.{Store}
-use Rattle.cow_pages.specs.Grid.{cell}
+use Rattle.page_tables.specs.Grid.{cell}
 use Rattle.cow_pages.specs.Store.{Row, leaf_key, table_grid, place_at, entry_in, entry_at, page_of_entry, shown, IsKept}
 use Rattle.cow_pages.specs.Steps.{DropsIndex, ClearsLeaf, LeavesPlace, Dropping, Ends, SameBytes}
-use Rattle.cow_pages.proofs.GridLemmas.{held-empty}
+use Rattle.page_tables.proofs.GridLemmas.{held-empty}
 use Rattle.cow_pages.proofs.StepLemmas.{leaves-row, frames-same, entry_in-same, leaf-here, leaf-other, HasPages-fewer}
 use Rattle.cow_pages.proofs.OpLemmas.{clear_entries, clear_kept, leave_entries, leave_kept, whole-same}
 use Rattle.cow_pages.proofs.ShownLemmas.{page_at-shown}

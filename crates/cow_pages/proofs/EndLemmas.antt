@@ -5,22 +5,22 @@ use Rattle.std.proofs.lemmas.List.{length-map, length-set, length-replicate, map
 use Rattle.std.proofs.lemmas.Bool.{cases_eq, cases_lt}
 use Rattle.std.proofs.lemmas.Option.{none-some}
 use Rattle.sharers.specs.Shares.{Shares, AreTallied, count_of}
-use Rattle.cow_pages.specs.declared.frame.Frame.{Frame}
-use Rattle.cow_pages.specs.declared.leaf.Entry.{Entry}
-use Rattle.cow_pages.specs.declared.leaf.Leaf.{Leaf}
-use Rattle.cow_pages.specs.declared.table.Table.{Table}
+use Rattle.page_tables.specs.declared.frame.Frame.{Frame}
+use Rattle.page_tables.specs.declared.leaf.Entry.{Entry}
+use Rattle.page_tables.specs.declared.leaf.Leaf.{Leaf}
+use Rattle.page_tables.specs.declared.table.Table.{Table}
 use Rattle.cow_pages.specs.declared.store.Store.{Store}
 use Rattle.cow_pages.specs.Memory.{is_live, leaf_in, used_leaves}
 use Rattle.cow_pages.specs.Change.{ChangesTable, FreesFrames, OtherLeaves}
-use Rattle.cow_pages.specs.Leaf.{no_leaf, present}
-use Rattle.cow_pages.specs.Counts.{count_in}
-use Rattle.cow_pages.specs.Tables.{mapped_from, written_from}
-use Rattle.cow_pages.specs.Grid.{cell, held, one_held}
+use Rattle.page_tables.specs.Leaf.{no_leaf, present}
+use Rattle.page_tables.specs.Counts.{count_in}
+use Rattle.page_tables.specs.Tables.{mapped_from, written_from}
+use Rattle.page_tables.specs.Grid.{cell, held, one_held}
 use Rattle.cow_pages.specs.Store.{Row, row_of, frame_key, leaf_key, leaf_grid, table_grid, bytes_of, frame_sharers, leaf_sharers, pages_kept, place_at, flat, mapped_counts, written_counts, shown, CountsSlots, IsCounted, IsKept, HasRoom, IsStore}
 use Rattle.cow_pages.specs.Steps.{KeepsCounts, SetsPlace, ClearsLeaf, LeavesPlace, Dropping, EmptiesLeaf, Ending, Ends}
-use Rattle.cow_pages.proofs.GridLemmas.{all-set, cell-row, cell-column, held-empty, one-yes, one-no}
+use Rattle.page_tables.proofs.GridLemmas.{all-set, cell-row, cell-column, held-empty, one-yes, one-no}
 use Rattle.cow_pages.proofs.CountLemmas.{count-here, count-other}
-use Rattle.cow_pages.proofs.CodeLemmas.{field-other, live_within, slots-set}
+use Rattle.page_tables.proofs.ListLemmas.{field-other, live_within, slots-set}
 use Rattle.cow_pages.proofs.SharedLemmas.{leaf_held, leaf_within}
 use Rattle.cow_pages.proofs.ShownLemmas.{get_or-none}
 use Rattle.cow_pages.proofs.StepLemmas.{leaf-here, leaf-other, only_place, this_or_other}
@@ -29,7 +29,7 @@ use Rattle.cow_pages.proofs.SoundLemmas.{leaf_there, leaves_counted}
 use Rattle.cow_pages.proofs.RoomLemmas.{frees_frames}
 use Rattle.cow_pages.proofs.StoreLemmas.{row-length, IsCounted-same, HasRoom-tables}
 use Rattle.cow_pages.proofs.DropLemmas.{dropping_none, dropping_skip, dropping_own, dropping_shared, ends_entries, drop_shown}
-use Rattle.cow_pages.proofs.WindowLemmas.{count-none}
+use Rattle.page_tables.proofs.WindowLemmas.{count-none}
 use Rattle.cow_pages.proofs.JoinLemmas.{present-none}
 
 -- the frames of a leaf have as many sharers as it has entries with them
@@ -379,7 +379,7 @@ ended s m new t store live e c =
     let rows : (u : ℕ) → u ≢ t → get_or (table_grid new) u [] ≡ get_or (table_grid m) u [] = λ u off.
     ap (λ (g : List Row). get_or g u []) fin.row.tables ∙ get_or-set_other (table_grid m) t u [] [] off in
     let seen = drop_shown s m new t store.kept e.drops fin
-    (λ f. ap (λ (it : Store). bytes_of it f) c.rest ∙ ap (λ (it : Rattle.std.specs.declared.vec.Vec.Vec Frame Rattle.std.specs.declared.alloc.Global.Global). Rattle.cow_pages.specs.Frame.frame_bytes it.items f) e.bytes)
+    (λ f. ap (λ (it : Store). bytes_of it f) c.rest ∙ ap (λ (it : Rattle.std.specs.declared.vec.Vec.Vec Frame Rattle.std.specs.declared.alloc.Global.Global). Rattle.page_tables.specs.Frame.frame_bytes it.items f) e.bytes)
     (λ v off. ap (λ (o : Option Table). is_some o) (other v off) ∙ e.live v) (ap (λ (it : Store). it.reads) c.rest ∙ e.reads) in
     let room = ended_room m new t e.room within c in
     let entries = ends_entries m new t fin in

@@ -5,20 +5,20 @@ use Rattle.std.proofs.lemmas.List.{get_or-set_same}
 use Rattle.std.proofs.lemmas.Bool.{cases_eq}
 use Rattle.std.proofs.lemmas.Nat.{div-add-mod', mod_below}
 use Rattle.sharers.specs.Shares.{Shares, AreTallied, count_of}
-use Rattle.cow_pages.specs.declared.leaf.Entry.{Entry}
-use Rattle.cow_pages.specs.declared.table.Table.{Table}
+use Rattle.page_tables.specs.declared.leaf.Entry.{Entry}
+use Rattle.page_tables.specs.declared.table.Table.{Table}
 use Rattle.cow_pages.specs.declared.store.Store.{Store}
-use Rattle.cow_pages.specs.Address.{is_in_window}
-use Rattle.cow_pages.specs.Counts.{count_in}
-use Rattle.cow_pages.specs.Leaf.{one_mapped, one_written}
-use Rattle.cow_pages.specs.Tables.{window_of, mapped_one, written_one, mapped_from, written_from}
+use Rattle.page_tables.specs.Address.{is_in_window}
+use Rattle.page_tables.specs.Counts.{count_in}
+use Rattle.page_tables.specs.Leaf.{one_mapped, one_written}
+use Rattle.page_tables.specs.Tables.{window_of, mapped_one, written_one, mapped_from, written_from}
 use Rattle.cow_pages.specs.Store.{Row, leaf_grid, table_grid, table_entries, bytes_of, leaf_sharers, pages_kept, place_at, entry_at, mapped_counts, written_counts, CountsSlots, FilledBeside, IsFilled, IsCounted, IsKept, HasRoom, IsStore, IsReady}
-use Rattle.cow_pages.specs.Grid.{cell}
+use Rattle.page_tables.specs.Grid.{cell}
 use Rattle.cow_pages.specs.Steps.{SetsOwn, Lone, SetsEntry, SetsBytes, Recounts, IsCountedAt}
-use Rattle.cow_pages.proofs.LeafLemmas.{mapped-set, written-set, mapped_there, written_there, mapped-le, written-le, present-there}
+use Rattle.page_tables.proofs.LeafLemmas.{mapped-set, written-set, mapped_there, written_there, mapped-le, written-le, present-there}
 use Rattle.cow_pages.proofs.SharedLemmas.{leaf_length}
 use Rattle.cow_pages.proofs.FlatLemmas.{entry-flat, flat-set, length-flat}
-use Rattle.cow_pages.proofs.GridLemmas.{cell-column}
+use Rattle.page_tables.proofs.GridLemmas.{cell-column}
 use Rattle.cow_pages.proofs.OpLemmas.{set_entries, put_kept, release_kept}
 use Rattle.cow_pages.proofs.StoreLemmas.{IsCounted-same}
 

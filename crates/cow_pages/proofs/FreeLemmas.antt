@@ -5,16 +5,16 @@ use Rattle.std.proofs.lemmas.List.{length-set}
 use Rattle.std.proofs.lemmas.Bool.{cases_eq}
 use Rattle.std.proofs.lemmas.Option.{none-some}
 use Rattle.sharers.specs.Shares.{Shares, AreTallied, count_of}
-use Rattle.cow_pages.specs.declared.leaf.Entry.{Entry}
+use Rattle.page_tables.specs.declared.leaf.Entry.{Entry}
 use Rattle.cow_pages.specs.declared.store.Store.{Store}
-use Rattle.cow_pages.specs.Address.{leaf_index}
+use Rattle.page_tables.specs.Address.{leaf_index}
 use Rattle.cow_pages.specs.Change.{ChangesPage, FreesFrames, LeavesLeaf}
-use Rattle.cow_pages.specs.Grid.{cell, one_held}
+use Rattle.page_tables.specs.Grid.{cell, one_held}
 use Rattle.cow_pages.specs.Memory.{page_at, used_frames, distinct_count, leaves_of}
 use Rattle.cow_pages.specs.Store.{Row, frame_key, leaf_key, leaf_grid, table_grid, bytes_of, frame_sharers, leaf_sharers, pages_kept, place_at, entry_in, entry_at, page_of_entry, shown, CountsSlots, IsKept, HasRoom, IsStore, IsReady}
 use Rattle.cow_pages.specs.Steps.{SetsPlace, SetsOwn, SameEntries, Recounts, LeavesPlace, Unmaps, KeepsCounts}
-use Rattle.cow_pages.proofs.LeafLemmas.{present-zero}
-use Rattle.cow_pages.proofs.GridLemmas.{one-yes, one-no, cell-row, cell-column}
+use Rattle.page_tables.proofs.LeafLemmas.{present-zero}
+use Rattle.page_tables.proofs.GridLemmas.{one-yes, one-no, cell-row, cell-column}
 use Rattle.cow_pages.proofs.CountLemmas.{count-here, count-other, count-within}
 use Rattle.cow_pages.proofs.SharedLemmas.{leaf_within}
 use Rattle.cow_pages.proofs.ShownLemmas.{page_at-shown}

@@ -3,18 +3,18 @@ use Rattle.std.proofs.Common.{◌≡◌, ℕ, zero, suc, ◌+◌, ◌<◌, ◌/�
 use Rattle.std.specs.Prelude.{All, replicate, min}
 use Rattle.std.proofs.lemmas.List.{length-append, length-replicate, length-map, get_or-replicate, append-nil}
 use Rattle.sharers.specs.Shares.{Shares, AreTallied, count_of}
-use Rattle.cow_pages.specs.declared.frame.Frame.{Frame}
-use Rattle.cow_pages.specs.declared.leaf.Entry.{Entry}
-use Rattle.cow_pages.specs.declared.leaf.Leaf.{Leaf}
-use Rattle.cow_pages.specs.declared.table.Table.{Table}
+use Rattle.page_tables.specs.declared.frame.Frame.{Frame}
+use Rattle.page_tables.specs.declared.leaf.Entry.{Entry}
+use Rattle.page_tables.specs.declared.leaf.Leaf.{Leaf}
+use Rattle.page_tables.specs.declared.table.Table.{Table}
 use Rattle.cow_pages.specs.declared.store.Store.{Store}
 use Rattle.cow_pages.specs.Memory.{Memory, Table as Pages}
-use Rattle.cow_pages.specs.Frame.{zero_frame, frame_bytes}
-use Rattle.cow_pages.specs.Leaf.{no_leaf, present}
-use Rattle.cow_pages.specs.Grid.{cell, all_held}
+use Rattle.page_tables.specs.Frame.{zero_frame, frame_bytes}
+use Rattle.page_tables.specs.Leaf.{no_leaf, present}
+use Rattle.page_tables.specs.Grid.{cell, all_held}
 use Rattle.cow_pages.specs.Store.{Row, row_of, frame_key, leaf_key, leaf_grid, table_grid, bytes_of, frame_sharers, leaf_sharers, pages_kept, place_at, entry_in, entry_at, flat, page_of_entry, pages_from, shown_table, shown, CountsSlots, IsKept, HasRoom, IsStore}
 use Rattle.cow_pages.specs.Steps.{SameEntries, AddsRoom}
-use Rattle.cow_pages.proofs.GridLemmas.{held-empty}
+use Rattle.page_tables.proofs.GridLemmas.{held-empty}
 use Rattle.cow_pages.proofs.CountLemmas.{count-joined}
 use Rattle.cow_pages.proofs.ShownLemmas.{get_or-none}
 use Rattle.cow_pages.proofs.SeenLemmas.{page_as}
@@ -170,8 +170,8 @@ joined_store s new n m store j =
       counted = λ t.
           IsCounted-same s new t store.kept also (joined_entries s new n m j t) (ap (λ (g : List Row). length (get_or g t [])) grid)
           (λ w. (
-            ap (λ (it : Rattle.std.specs.declared.vec.Vec.Vec (Option Table) Rattle.std.specs.declared.alloc.Global.Global). Rattle.cow_pages.specs.Counts.count_in (Rattle.cow_pages.specs.Store.mapped_counts (get_or it.items t None)) w) j.tables,
-            ap (λ (it : Rattle.std.specs.declared.vec.Vec.Vec (Option Table) Rattle.std.specs.declared.alloc.Global.Global). Rattle.cow_pages.specs.Counts.count_in (Rattle.cow_pages.specs.Store.written_counts (get_or it.items t None)) w) j.tables,
+            ap (λ (it : Rattle.std.specs.declared.vec.Vec.Vec (Option Table) Rattle.std.specs.declared.alloc.Global.Global). Rattle.page_tables.specs.Counts.count_in (Rattle.cow_pages.specs.Store.mapped_counts (get_or it.items t None)) w) j.tables,
+            ap (λ (it : Rattle.std.specs.declared.vec.Vec.Vec (Option Table) Rattle.std.specs.declared.alloc.Global.Global). Rattle.page_tables.specs.Counts.count_in (Rattle.cow_pages.specs.Store.written_counts (get_or it.items t None)) w) j.tables,
           )) (store.counted t);
     }
 

@@ -5,8 +5,8 @@ use Rattle.std.proofs.lemmas.Option.{none-some}
 use Rattle.std.proofs.lemmas.Nat.{le_bytes_2, le_bytes_4, le_bytes_8}
 use Rattle.std.proofs.lemmas.List.{get_or_past}
 use Rattle.std.proofs.lemmas.Bool.{cases_eq, cases_lt, eq-eqb, ne_eqb, cond-true, cond-false, le-leb, lt-leb, le-ltb, lt-ltb, leb-true, and_from}
-use Rattle.cow_pages.specs.declared.address.Window.{Window}
-use Rattle.cow_pages.specs.Address.{page_of, offset_of, is_in, first_page, page_count, leaf_index}
+use Rattle.page_tables.specs.declared.address.Window.{Window}
+use Rattle.page_tables.specs.Address.{page_of, offset_of, is_in, first_page, page_count, leaf_index}
 use Rattle.cow_pages.specs.Memory.{Memory, Page, Table, page_in, page_at, table_of, is_mapped, flag_of, RisesFrom, IsSound, frame_at, is_written, leaf_in, leaf_at, HasOneSharer, IsFree}
 use Rattle.cow_pages.specs.Change.{ChangesPage, ChangesTable}
 use Rattle.cow_pages.specs.View.{View, view_of, byte_at, byte_in, numbers_from, bytes_at, u16_at, u32_at, u64_at}

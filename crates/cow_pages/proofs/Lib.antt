@@ -1,10 +1,6 @@
-pub mod WindowLemmas
-pub mod LeafLemmas
 pub mod CodeLemmas
 pub mod CountLemmas
-pub mod PatchLemmas
 pub mod HolderLemmas
-pub mod GridLemmas
 pub mod SharedLemmas
 pub mod ShownLemmas
 pub mod StepLemmas

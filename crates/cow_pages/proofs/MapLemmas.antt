@@ -6,19 +6,19 @@ use Rattle.std.proofs.lemmas.Bool.{cases_eq}
 use Rattle.std.proofs.lemmas.Nat.{mod_below}
 use Rattle.sharers.specs.Shares.{Shares, AreTallied, count_of}
 use Rattle.model_numbers.specs.Numbers.{page_bytes}
-use Rattle.cow_pages.specs.declared.frame.Frame.{Frame}
-use Rattle.cow_pages.specs.declared.leaf.Entry.{Entry}
-use Rattle.cow_pages.specs.declared.table.Table.{Table}
+use Rattle.page_tables.specs.declared.frame.Frame.{Frame}
+use Rattle.page_tables.specs.declared.leaf.Entry.{Entry}
+use Rattle.page_tables.specs.declared.table.Table.{Table}
 use Rattle.cow_pages.specs.declared.store.Store.{Store}
-use Rattle.cow_pages.specs.Address.{is_in_window}
-use Rattle.cow_pages.specs.Counts.{count_in}
-use Rattle.cow_pages.specs.Frame.{zero_frame}
-use Rattle.cow_pages.specs.Grid.{cell, one_held}
+use Rattle.page_tables.specs.Address.{is_in_window}
+use Rattle.page_tables.specs.Counts.{count_in}
+use Rattle.page_tables.specs.Frame.{zero_frame}
+use Rattle.page_tables.specs.Grid.{cell, one_held}
 use Rattle.cow_pages.specs.Store.{Row, frame_key, leaf_grid, table_grid, frame_sharers, leaf_sharers, pages_kept, place_at, entry_in, entry_at, mapped_counts, written_counts, CountsSlots, HasRoom, IsStore, IsReady}
 use Rattle.cow_pages.specs.Steps.{SetsSlot, SetsOwn, Lone, Recounts, HoldsFrame, Maps}
-use Rattle.cow_pages.proofs.GridLemmas.{one-yes, one-no}
+use Rattle.page_tables.proofs.GridLemmas.{one-yes, one-no}
 use Rattle.cow_pages.proofs.CountLemmas.{count-here, count-other}
-use Rattle.cow_pages.proofs.CodeLemmas.{field-here, field-other}
+use Rattle.page_tables.proofs.ListLemmas.{field-here, field-other}
 use Rattle.cow_pages.proofs.SharedLemmas.{leaf_held, leaf_within, leaf_length}
 use Rattle.cow_pages.proofs.OpLemmas.{set_entries}
 use Rattle.cow_pages.proofs.SeenLemmas.{fresh_entry, lone_free}
@@ -97,8 +97,8 @@ mapped_steps s m1 m2 new t p l f ready window unmapped c =
     let items : new.frames.items ≡ set s.frames.items f zero_frame = ap (λ (it : Rattle.std.specs.declared.vec.Vec.Vec Frame Rattle.std.specs.declared.alloc.Global.Global). it.items) frames_is ∙ c.zeros in
     let len : length new.frames.items ≡ length s.frames.items = ap (λ (fs : List Frame). length fs) items ∙ length-set s.frames.items f zero_frame in
     let bytes : Rattle.cow_pages.specs.Steps.SetsBytes s new f (replicate page_bytes 0) = record {
-      here = ap (λ (fs : List Frame). Rattle.cow_pages.specs.Frame.frame_bytes fs f) items ∙ field-here (λ (it : Frame). it.bytes) s.frames.items f zero_frame [] c.holds.within;
-      others = λ g off. ap (λ (fs : List Frame). Rattle.cow_pages.specs.Frame.frame_bytes fs g) items ∙ field-other (λ (it : Frame). it.bytes) s.frames.items f g zero_frame [] off;
+      here = ap (λ (fs : List Frame). Rattle.page_tables.specs.Frame.frame_bytes fs f) items ∙ field-here (λ (it : Frame). it.bytes) s.frames.items f zero_frame [] c.holds.within;
+      others = λ g off. ap (λ (fs : List Frame). Rattle.page_tables.specs.Frame.frame_bytes fs g) items ∙ field-other (λ (it : Frame). it.bytes) s.frames.items f g zero_frame [] off;
     } in
     let numbers : new.table_counts ≡ s.table_counts = ap (λ (it : Store). it.table_counts) c.counted ∙ ap (λ (it : Store). it.table_counts) c.put ∙ ap (λ (it : Store). it.table_counts) c.took in
     let reads : new.reads ≡ s.reads = ap (λ (it : Store). it.reads) c.counted ∙ ap (λ (it : Store). it.reads) c.put ∙ ap (λ (it : Store). it.reads) c.took in

@@ -3,18 +3,18 @@ use Rattle.std.proofs.Common.{◌≡◌, ◌≢◌, ℕ, ◌+◌, ◌<◌, ◌�
 use Rattle.std.specs.Prelude.{All, option_map}
 use Rattle.std.proofs.lemmas.List.{length-set}
 use Rattle.sharers.specs.Shares.{Shares, AreTallied, count_of}
-use Rattle.cow_pages.specs.declared.frame.Frame.{Frame}
-use Rattle.cow_pages.specs.declared.leaf.Entry.{Entry}
+use Rattle.page_tables.specs.declared.frame.Frame.{Frame}
+use Rattle.page_tables.specs.declared.leaf.Entry.{Entry}
 use Rattle.cow_pages.specs.declared.store.Store.{Store}
-use Rattle.cow_pages.specs.Address.{page_of, offset_of, leaf_index}
-use Rattle.cow_pages.specs.Change.{OwnsLeaf, TakesOnCopy, WritesPage, patched}
-use Rattle.cow_pages.specs.Frame.{frame_bytes}
-use Rattle.cow_pages.specs.Grid.{one_held}
+use Rattle.page_tables.specs.Address.{page_of, offset_of, leaf_index}
+use Rattle.page_tables.specs.Frame.{patched, frame_bytes}
+use Rattle.cow_pages.specs.Change.{OwnsLeaf, TakesOnCopy, WritesPage}
+use Rattle.page_tables.specs.Grid.{one_held}
 use Rattle.cow_pages.specs.Memory.{HasOneSharer}
 use Rattle.cow_pages.specs.Store.{Row, frame_key, leaf_grid, table_grid, bytes_of, frame_sharers, leaf_sharers, pages_kept, place_at, entry_at, page_of_entry, shown, CountsSlots, IsFilled, IsCounted, IsKept, HasRoom, IsStore}
 use Rattle.cow_pages.specs.Steps.{Lone, SetsOwn, SetsBytes, Recounts, OwnsEntry, Marks, PutsBytes}
-use Rattle.cow_pages.proofs.CodeLemmas.{field-here, field-other}
-use Rattle.cow_pages.proofs.PatchLemmas.{length-patched, small-patched}
+use Rattle.page_tables.proofs.ListLemmas.{field-here, field-other}
+use Rattle.page_tables.proofs.PatchLemmas.{length-patched, small-patched}
 use Rattle.cow_pages.proofs.SharedLemmas.{lone, stands}
 use Rattle.cow_pages.proofs.ShownLemmas.{page_at-shown, frame-shown, one_sharer}
 use Rattle.cow_pages.proofs.OpLemmas.{set_entries}

@@ -2,7 +2,7 @@
 use Rattle.std.proofs.Common.{◌≡◌, ◌≢◌, ◌⊎◌, ℕ, List, Option, Some, None, option_map, refl, sym, ap, subst, is_some, true≢false, IsTrue, ◌∙◌, inl, inr}
 use Rattle.std.proofs.lemmas.Bool.{cases_eq}
 use Rattle.std.proofs.lemmas.Option.{none-some, same_Some}
-use Rattle.cow_pages.specs.Address.{page_of}
+use Rattle.page_tables.specs.Address.{page_of}
 use Rattle.cow_pages.specs.Memory.{Memory, Page, page_at, frame_at, is_live, is_mapped, HasOneSharer, IsFree}
 use Rattle.cow_pages.specs.Change.{ChangesPage, ChangesTable, MapsZeros, WritesPage, KeepsOrCopies, settled}
 use Rattle.cow_pages.proofs.LawLemmas.{one_from_free}

@@ -3,13 +3,13 @@ use Rattle.std.proofs.Common.{◌≡◌, ◌≢◌, ◌⊎◌, ℕ, ◌<◌, ◌
 use Rattle.std.proofs.lemmas.List.{get_or-set_same, get_or-set_other, length-set}
 use Rattle.std.proofs.lemmas.Bool.{cases_eq}
 use Rattle.std.proofs.lemmas.Option.{none-some}
-use Rattle.cow_pages.specs.Address.{is_in_window}
-use Rattle.cow_pages.specs.declared.leaf.Entry.{Entry}
+use Rattle.page_tables.specs.Address.{is_in_window}
+use Rattle.page_tables.specs.declared.leaf.Entry.{Entry}
 use Rattle.cow_pages.specs.declared.store.Store.{Store}
-use Rattle.cow_pages.specs.Grid.{cell, one_held}
+use Rattle.page_tables.specs.Grid.{cell, one_held}
 use Rattle.cow_pages.specs.Store.{Row, leaf_key, leaf_grid, table_grid, leaf_sharers, place_at, entry_in, entry_at, IsWhole, HasCounts, HasPages, IsKept}
 use Rattle.cow_pages.specs.Steps.{Lone, SetsEntry, DropsIndex, SameEntries, ForksEntries, Forks, CopiesLeaf, TakesLeaf, SetsOwn, ClearsLeaf, LeavesPlace}
-use Rattle.cow_pages.proofs.GridLemmas.{cell-set_same, cell-set_other, held-empty, one-no, one-yes}
+use Rattle.page_tables.proofs.GridLemmas.{cell-set_same, cell-set_other, held-empty, one-no, one-yes}
 use Rattle.cow_pages.proofs.SharedLemmas.{leaf_length, same_parts}
 use Rattle.cow_pages.proofs.StepLemmas.{leaves-place, leaves-row, leaves-same, frames-slot, frames-leaf, frames-same, HasPages-fewer, HasPages-put, HasPages-fork, this_or_other, leaf-here, leaf-other, entry_in-same, not_this, only_place}
 

@@ -4,17 +4,17 @@ use Rattle.std.specs.Prelude.{◌-◌, min, option_map, slice_index}
 use Rattle.std.proofs.lemmas.List.{get_or-map, get_or_past}
 use Rattle.std.proofs.lemmas.Bool.{cases_lt}
 use Rattle.std.proofs.lemmas.Option.{none-some}
-use Rattle.cow_pages.specs.declared.address.Window.{Window}
-use Rattle.cow_pages.specs.declared.frame.Frame.{Frame}
-use Rattle.cow_pages.specs.declared.leaf.Entry.{Entry}
-use Rattle.cow_pages.specs.declared.table.Table.{Table}
+use Rattle.page_tables.specs.declared.address.Window.{Window}
+use Rattle.page_tables.specs.declared.frame.Frame.{Frame}
+use Rattle.page_tables.specs.declared.leaf.Entry.{Entry}
+use Rattle.page_tables.specs.declared.table.Table.{Table}
 use Rattle.cow_pages.specs.declared.store.Store.{Store}
-use Rattle.cow_pages.specs.Address.{is_in, is_immune, page_of, offset_of}
+use Rattle.page_tables.specs.Address.{is_in, is_immune, page_of, offset_of}
 use Rattle.cow_pages.specs.Change.{reads_after}
 use Rattle.cow_pages.specs.Memory.{Page, page_at, frame_at, is_mapped, is_live, mapped_in, written_in}
 use Rattle.cow_pages.specs.View.{byte_at, byte_in, bytes_at, view_of}
-use Rattle.cow_pages.specs.Frame.{frame_bytes}
-use Rattle.cow_pages.specs.Tables.{mapped_from, written_from}
+use Rattle.page_tables.specs.Frame.{frame_bytes}
+use Rattle.page_tables.specs.Tables.{mapped_from, written_from}
 use Rattle.cow_pages.specs.Store.{Row, row_of, bytes_of, page_of_entry, pages_from, shown, entry_at, place_at, table_entries, mapped_kept, written_kept, IsStore}
 use Rattle.cow_pages.proofs.HolderLemmas.{count-step}
 use Rattle.cow_pages.proofs.OpLemmas.{kept_reads}

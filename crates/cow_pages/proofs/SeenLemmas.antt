@@ -1,16 +1,17 @@
 -- What a change of a store shows.
 use Rattle.std.proofs.Common.{◌≡◌, ◌≢◌, ◌⊎◌, ℕ, zero, suc, ◌/◌, ◌%◌, Bool, true, false, List, [], ◌∷◌, map, get_or, Some, None, Option, is_some, IsTrue, refl, sym, ap, ◌∙◌, inl, inr, arith}
 use Rattle.std.specs.Prelude.{option_map, replicate}
-use Rattle.cow_pages.specs.Address.{is_in_window, page_of, offset_of}
+use Rattle.page_tables.specs.Address.{is_in_window, page_of, offset_of}
 use Rattle.cow_pages.specs.Memory.{Memory, Page, page_at, frame_at, is_live, HasOneSharer, IsShared, IsFree, IsSettled, flag_of}
-use Rattle.cow_pages.specs.Change.{ChangesPage, ChangesTable, KeepsOrCopies, WritesPage, MapsZeros, patched}
-use Rattle.cow_pages.specs.declared.leaf.Entry.{Entry}
+use Rattle.page_tables.specs.Frame.{patched}
+use Rattle.cow_pages.specs.Change.{ChangesPage, ChangesTable, KeepsOrCopies, WritesPage, MapsZeros}
+use Rattle.page_tables.specs.declared.leaf.Entry.{Entry}
 use Rattle.cow_pages.specs.declared.store.Store.{Store}
-use Rattle.cow_pages.specs.declared.table.Table.{Table}
-use Rattle.cow_pages.specs.Grid.{cell, one_held}
+use Rattle.page_tables.specs.declared.table.Table.{Table}
+use Rattle.page_tables.specs.Grid.{cell, one_held}
 use Rattle.cow_pages.specs.Store.{Row, row_of, leaf_grid, table_grid, place_at, entry_in, entry_at, page_of_entry, shown_table, shown, bytes_of, leaf_key, frame_sharers, leaf_sharers, IsKept}
 use Rattle.cow_pages.specs.Steps.{Lone, Settled, SetsEntry, Forks, CopiesLeaf, TakesLeaf, SetsOwn, Beside, SameBytes, SetsBytes, Ready}
-use Rattle.cow_pages.proofs.GridLemmas.{one-no, one-yes}
+use Rattle.page_tables.proofs.GridLemmas.{one-no, one-yes}
 use Rattle.cow_pages.proofs.SharedLemmas.{lone, frame_held}
 use Rattle.cow_pages.proofs.ShownLemmas.{page_at-shown, frame-shown, one_sharer, one_or_more, is_free}
 use Rattle.cow_pages.proofs.StepLemmas.{leaf-here, this_or_other}

@@ -4,12 +4,12 @@ use Rattle.std.proofs.lemmas.List.{get_or_past}
 use Rattle.std.proofs.lemmas.Bool.{cases_eq, cases_lt}
 use Rattle.std.proofs.lemmas.Option.{none-some, same_Some}
 use Rattle.std.proofs.lemmas.Nat.{div-add-mod', div-mul-add, mod-mul-add, mod_below}
-use Rattle.cow_pages.specs.declared.leaf.Entry.{Entry}
+use Rattle.page_tables.specs.declared.leaf.Entry.{Entry}
 use Rattle.cow_pages.specs.declared.store.Store.{Store}
-use Rattle.cow_pages.specs.Grid.{cell}
+use Rattle.page_tables.specs.Grid.{cell}
 use Rattle.cow_pages.specs.Store.{frame_key, leaf_key, leaf_grid, table_grid, frame_sharers, leaf_sharers, place_at, entry_in, entry_at, HasCounts, IsKept}
 use Rattle.cow_pages.specs.Steps.{Lone}
-use Rattle.cow_pages.proofs.GridLemmas.{cell-there, cell-two, cell_found, cell_other, cell-column}
+use Rattle.page_tables.proofs.GridLemmas.{cell-there, cell-two, cell_found, cell_other, cell-column}
 
 -- the leaf and the slot of an entry
 pub record Stands (s : Store) (t p : ℕ) (e : Entry) : Type 0 where

@@ -6,10 +6,10 @@ use Rattle.std.proofs.lemmas.Bool.{cases_eq, eq-eqb, ne_eqb, cond-true, cond-fal
 use Rattle.std.proofs.lemmas.Option.{none-some, same_Some}
 use Rattle.std.proofs.lemmas.Nat.{div-add-mod', mod_below}
 use Rattle.cow_pages.specs.Memory.{Page, Table as Pages, page_in, pages_of, page_at, frame_at, RisesFrom, HasOneSharer, IsShared, IsFree}
-use Rattle.cow_pages.specs.declared.leaf.Entry.{Entry}
+use Rattle.page_tables.specs.declared.leaf.Entry.{Entry}
 use Rattle.cow_pages.specs.declared.store.Store.{Store}
-use Rattle.cow_pages.specs.declared.table.Table.{Table}
-use Rattle.cow_pages.specs.Grid.{cell}
+use Rattle.page_tables.specs.declared.table.Table.{Table}
+use Rattle.page_tables.specs.Grid.{cell}
 use Rattle.cow_pages.specs.Store.{Row, row_of, leaf_grid, table_grid, place_at, entry_in, entry_at, flat, entries_of_leaf, page_of_entry, pages_from, shown_table, shown, frame_sharers, leaf_sharers, IsKept}
 use Rattle.cow_pages.specs.Steps.{Lone}
 use Rattle.cow_pages.proofs.SharedLemmas.{leaf_length, Stands, stands, lone, shared_leaf, shared_frame, Shared, entry_there, frame_held}

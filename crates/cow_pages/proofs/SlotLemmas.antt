@@ -4,14 +4,14 @@ use Rattle.std.specs.Prelude.{option_map}
 use Rattle.std.proofs.lemmas.Nat.{mod_below}
 use Rattle.std.proofs.lemmas.Option.{none-some, same_Some}
 use Rattle.sharers.specs.Shares.{Shares}
-use Rattle.cow_pages.specs.declared.leaf.Entry.{Entry}
-use Rattle.cow_pages.specs.declared.table.Table.{Table}
+use Rattle.page_tables.specs.declared.leaf.Entry.{Entry}
+use Rattle.page_tables.specs.declared.table.Table.{Table}
 use Rattle.cow_pages.specs.declared.store.Store.{Store}
-use Rattle.cow_pages.specs.Counts.{count_in}
-use Rattle.cow_pages.specs.Grid.{cell, one_held}
+use Rattle.page_tables.specs.Counts.{count_in}
+use Rattle.page_tables.specs.Grid.{cell, one_held}
 use Rattle.cow_pages.specs.Memory.{Memory, Page, page_at, used_frames, distinct_count, leaves_of, HasOneSharer, IsShared}
 use Rattle.cow_pages.specs.Change.{OwnsLeaf, TakesOnCopy, TakesFrame, TakesOne}
-use Rattle.cow_pages.specs.Tables.{window_of}
+use Rattle.page_tables.specs.Tables.{window_of}
 use Rattle.cow_pages.specs.Store.{Row, frame_key, leaf_grid, table_grid, bytes_of, frame_sharers, leaf_sharers, place_at, entry_in, entry_at, mapped_counts, written_counts, page_of_entry, shown, IsKept, IsStore, IsReady}
 use Rattle.cow_pages.specs.Steps.{Lone, SetsOwn, IsCountedAt, AddsRoom}
 use Rattle.cow_pages.proofs.RoomLemmas.{not_shared, keeps_room}

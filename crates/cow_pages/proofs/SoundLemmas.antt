@@ -5,18 +5,18 @@ use Rattle.std.proofs.lemmas.List.{length-map}
 use Rattle.std.proofs.lemmas.Bool.{cases_eq, cases_lt, eq-eqb, ne_eqb, cond-true, cond-false}
 use Rattle.std.proofs.lemmas.Nat.{div-mul-add, mod_below}
 use Rattle.std.proofs.lemmas.Option.{none-some, same_Some}
-use Rattle.cow_pages.specs.Address.{is_in_window}
+use Rattle.page_tables.specs.Address.{is_in_window}
 use Rattle.cow_pages.specs.Memory.{Memory, Page, Table, page_at, frame_at, frames_of, is_mapped, is_written, flag_of, HasOneSharer, RisesFrom, IsSound, used_frames, used_leaves, distinct_count, row_leaves, leaves_of}
-use Rattle.cow_pages.specs.declared.leaf.Entry.{Entry}
+use Rattle.page_tables.specs.declared.leaf.Entry.{Entry}
 use Rattle.cow_pages.specs.declared.store.Store.{Store}
 use Rattle.cow_pages.specs.View.{numbers_from}
-use Rattle.cow_pages.specs.Grid.{cell, held, all_held}
+use Rattle.page_tables.specs.Grid.{cell, held, all_held}
 use Rattle.cow_pages.specs.Store.{Row, place_at, entry_in, entry_at, leaf_grid, table_grid, leaf_key, frame_sharers, leaf_sharers, pages_kept, bytes_of, page_of_entry, shown, flat, HasRoom, CountsSlots, IsKept, IsStore}
 use Rattle.cow_pages.proofs.HolderLemmas.{holders, count-step, holders-yes, holders-no, holders-append, distinct_and_absent, all_below, entry_with, holders-entries}
 use Rattle.cow_pages.proofs.CountLemmas.{count-within}
-use Rattle.cow_pages.proofs.GridLemmas.{one-yes, one-no, cell-column}
-use Rattle.cow_pages.proofs.LeafLemmas.{present-found}
-use Rattle.cow_pages.specs.declared.leaf.Leaf.{Leaf}
+use Rattle.page_tables.proofs.GridLemmas.{one-yes, one-no, cell-column}
+use Rattle.page_tables.proofs.LeafLemmas.{present-found}
+use Rattle.page_tables.specs.declared.leaf.Leaf.{Leaf}
 use Rattle.cow_pages.proofs.SharedLemmas.{leaf_held, leaf_within, leaf_length, frame_held, frame_used, stands, entry_put}
 use Rattle.cow_pages.proofs.ShownLemmas.{page_at-shown, frame-shown, framed, table_of-shown, RisesFrom-pages, one_sharer}
 

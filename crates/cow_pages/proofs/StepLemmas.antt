@@ -2,13 +2,13 @@
 use Rattle.std.proofs.Common.{◌≡◌, ◌≢◌, ◌⊎◌, ℕ, true≢false, List, Some, None, Option, IsTrue, refl, sym, ap, subst, ◌∙◌, inl, inr, arith}
 use Rattle.std.proofs.lemmas.Bool.{cases_eq}
 use Rattle.std.proofs.lemmas.Option.{same_Some}
-use Rattle.cow_pages.specs.Address.{is_in_window}
-use Rattle.cow_pages.specs.declared.leaf.Entry.{Entry}
+use Rattle.page_tables.specs.Address.{is_in_window}
+use Rattle.page_tables.specs.declared.leaf.Entry.{Entry}
 use Rattle.cow_pages.specs.declared.store.Store.{Store}
-use Rattle.cow_pages.specs.Grid.{cell, all_held}
+use Rattle.page_tables.specs.Grid.{cell, all_held}
 use Rattle.cow_pages.specs.Store.{Row, frame_key, leaf_key, leaf_grid, table_grid, frame_sharers, leaf_sharers, place_at, entry_in, entry_at, HasCounts, HasPages}
 use Rattle.cow_pages.specs.Steps.{Lone, Settled, SetsPlace, SetsRow, KeepsTables, SetsSlot, SetsLeaf, KeepsLeaves, SetsEntry, ForksEntries}
-use Rattle.cow_pages.proofs.GridLemmas.{cell-set, all-set, cell-set_same, cell-set_other, cell-two}
+use Rattle.page_tables.proofs.GridLemmas.{cell-set, all-set, cell-set_same, cell-set_other, cell-two}
 use Rattle.cow_pages.proofs.SharedLemmas.{leaf_held}
 
 -- COUNTS

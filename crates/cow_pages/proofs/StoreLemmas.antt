@@ -5,22 +5,22 @@ use Rattle.std.proofs.lemmas.List.{get_or-set_same, get_or-set_other, length-set
 use Rattle.std.proofs.lemmas.Bool.{cases_eq}
 use Rattle.std.proofs.lemmas.Option.{none-some, same_Some}
 use Rattle.sharers.specs.Shares.{Shares, AreTallied}
-use Rattle.cow_pages.specs.declared.address.Window.{Window}
-use Rattle.cow_pages.specs.declared.leaf.Entry.{Entry}
+use Rattle.page_tables.specs.declared.address.Window.{Window}
+use Rattle.page_tables.specs.declared.leaf.Entry.{Entry}
 use Rattle.cow_pages.specs.declared.store.Store.{Store}
 use Rattle.cow_pages.specs.Memory.{HasOwnLeaf, HasSharedLeaf, IsFreeLeaf, used_leaves}
 use Rattle.cow_pages.specs.Change.{OwnsLeaf}
-use Rattle.cow_pages.specs.Tables.{mapped_from, written_from}
-use Rattle.cow_pages.specs.Grid.{held, one_held, all_held}
+use Rattle.page_tables.specs.Tables.{mapped_from, written_from}
+use Rattle.page_tables.specs.Grid.{held, one_held, all_held}
 use Rattle.cow_pages.specs.Store.{Row, row_of, frame_key, leaf_key, leaf_grid, table_grid, table_entries, bytes_of, frame_sharers, leaf_sharers, pages_kept, place_at, entry_at, mapped_kept, written_kept, shown, CountsSlots, FilledBeside, IsFilled, IsCounted, IsKept, HasRoom, IsStore, IsReady}
 use Rattle.cow_pages.specs.Steps.{SetsPlace, KeepsCounts, KeepsRoomOf, SameEntries, TakesLeaf, CopiesLeaf, Ready}
-use Rattle.cow_pages.proofs.GridLemmas.{cell_other, cell-row, cell-column, cell-there, held-empty, one-yes, one-no}
+use Rattle.page_tables.proofs.GridLemmas.{cell_other, cell-row, cell-column, cell-there, held-empty, one-yes, one-no}
 use Rattle.cow_pages.proofs.SharedLemmas.{leaf_held, leaf_within}
 use Rattle.cow_pages.proofs.StepLemmas.{leaf-here, leaf-other, only_place, this_or_other}
 use Rattle.cow_pages.proofs.CountLemmas.{count-within, held-le, take-all}
 use Rattle.cow_pages.proofs.OpLemmas.{take_kept, take_entries, own_kept, own_entries}
 use Rattle.cow_pages.proofs.SeenLemmas.{ready_own}
-use Rattle.cow_pages.proofs.CodeLemmas.{live_within}
+use Rattle.page_tables.proofs.ListLemmas.{live_within}
 use Rattle.cow_pages.proofs.FlatLemmas.{flat-same}
 use Rattle.cow_pages.proofs.SoundLemmas.{leaf_page, same_index, leaves_counted}
 
@@ -52,15 +52,15 @@ pub HasRoom-tables : (s new : Store) → HasRoom s → new.frames ≡ s.frames �
     → ((u : ℕ) → length (get_or (table_grid new) u []) ≡ length (get_or (table_grid s) u [])) → new.reads ≡ s.reads → HasRoom new
 HasRoom-tables s new room frames counts frames_tallied leaves_tallied numbers live len rows reads = record {
   reads = omega (arith, room.reads, reads);
-  frames = omega (arith, counts, room.frames, ap (λ (it : Rattle.std.specs.declared.vec.Vec.Vec Rattle.cow_pages.specs.declared.frame.Frame.Frame Rattle.std.specs.declared.alloc.Global.Global). length it.items) frames);
+  frames = omega (arith, counts, room.frames, ap (λ (it : Rattle.std.specs.declared.vec.Vec.Vec Rattle.page_tables.specs.declared.frame.Frame.Frame Rattle.std.specs.declared.alloc.Global.Global). length it.items) frames);
   tables = omega (arith, ap (λ (it : Shares). length it.counts) numbers, room.tables, len);
   frames_tallied = frames_tallied;
   leaves_tallied = leaves_tallied;
   tables_tallied = subst AreTallied (sym numbers) room.tables_tallied;
   numbers = λ t. ap (λ (it : Shares). Rattle.sharers.specs.Shares.count_of it t) numbers ∙ room.numbers t ∙ sym (ap (λ b. Rattle.std.proofs.Common.cond {A = ℕ} b 1 0) (live t));
   rows = λ t is. rows t ∙ room.rows t (sym (live t) ∙ is);
-  whole = subst (λ (it : Rattle.std.specs.declared.vec.Vec.Vec Rattle.cow_pages.specs.declared.frame.Frame.Frame Rattle.std.specs.declared.alloc.Global.Global). (f : ℕ) → f < length it.items → length (Rattle.cow_pages.specs.Frame.frame_bytes it.items f) ≡ 4096) (sym frames) room.whole;
-  bytes = subst (λ (it : Rattle.std.specs.declared.vec.Vec.Vec Rattle.cow_pages.specs.declared.frame.Frame.Frame Rattle.std.specs.declared.alloc.Global.Global). (f : ℕ) → f < length it.items → All (λ b. b < 256) (Rattle.cow_pages.specs.Frame.frame_bytes it.items f)) (sym frames) room.bytes;
+  whole = subst (λ (it : Rattle.std.specs.declared.vec.Vec.Vec Rattle.page_tables.specs.declared.frame.Frame.Frame Rattle.std.specs.declared.alloc.Global.Global). (f : ℕ) → f < length it.items → length (Rattle.page_tables.specs.Frame.frame_bytes it.items f) ≡ 4096) (sym frames) room.whole;
+  bytes = subst (λ (it : Rattle.std.specs.declared.vec.Vec.Vec Rattle.page_tables.specs.declared.frame.Frame.Frame Rattle.std.specs.declared.alloc.Global.Global). (f : ℕ) → f < length it.items → All (λ b. b < 256) (Rattle.page_tables.specs.Frame.frame_bytes it.items f)) (sym frames) room.bytes;
 }
 
 -- a leaf without a sharer is none that a table has
@@ -185,11 +185,11 @@ readied_free s new t i m store also same sets free own b how =
         same = same;
         place = leaf-here s new t i (Some m) sets;
         own = own;
-        bytes = λ f. ap (λ (it : Rattle.std.specs.declared.vec.Vec.Vec Rattle.cow_pages.specs.declared.frame.Frame.Frame Rattle.std.specs.declared.alloc.Global.Global). Rattle.cow_pages.specs.Frame.frame_bytes it.items f) b.frames;
+        bytes = λ f. ap (λ (it : Rattle.std.specs.declared.vec.Vec.Vec Rattle.page_tables.specs.declared.frame.Frame.Frame Rattle.std.specs.declared.alloc.Global.Global). Rattle.page_tables.specs.Frame.frame_bytes it.items f) b.frames;
         beside = record {
           live = b.counts.live;
           reads = b.reads;
-          len = ap (λ (it : Rattle.std.specs.declared.vec.Vec.Vec Rattle.cow_pages.specs.declared.frame.Frame.Frame Rattle.std.specs.declared.alloc.Global.Global). length it.items) b.frames;
+          len = ap (λ (it : Rattle.std.specs.declared.vec.Vec.Vec Rattle.page_tables.specs.declared.frame.Frame.Frame Rattle.std.specs.declared.alloc.Global.Global). length it.items) b.frames;
         };
       };
       leaf = owns_free s new t i m store.kept store.room also room sets free b.leaf_spare how;
@@ -386,11 +386,11 @@ copied_steps s m1 m3 new t i from to sh1 sh2 store place more c =
       besides = record {
         counts = record {
           kept = λ u w. (
-            (c.put_counts.kept u w).0 ∙ ap (λ (it : Rattle.std.specs.declared.vec.Vec.Vec (Option Rattle.cow_pages.specs.declared.table.Table.Table) Rattle.std.specs.declared.alloc.Global.Global). Rattle.cow_pages.specs.Counts.count_in (Rattle.cow_pages.specs.Store.mapped_counts (get_or it.items u None)) w) tables3,
-            (c.put_counts.kept u w).1 ∙ ap (λ (it : Rattle.std.specs.declared.vec.Vec.Vec (Option Rattle.cow_pages.specs.declared.table.Table.Table) Rattle.std.specs.declared.alloc.Global.Global). Rattle.cow_pages.specs.Counts.count_in (Rattle.cow_pages.specs.Store.written_counts (get_or it.items u None)) w) tables3,
+            (c.put_counts.kept u w).0 ∙ ap (λ (it : Rattle.std.specs.declared.vec.Vec.Vec (Option Rattle.page_tables.specs.declared.table.Table.Table) Rattle.std.specs.declared.alloc.Global.Global). Rattle.page_tables.specs.Counts.count_in (Rattle.cow_pages.specs.Store.mapped_counts (get_or it.items u None)) w) tables3,
+            (c.put_counts.kept u w).1 ∙ ap (λ (it : Rattle.std.specs.declared.vec.Vec.Vec (Option Rattle.page_tables.specs.declared.table.Table.Table) Rattle.std.specs.declared.alloc.Global.Global). Rattle.page_tables.specs.Counts.count_in (Rattle.cow_pages.specs.Store.written_counts (get_or it.items u None)) w) tables3,
           );
-          live = λ u. c.put_counts.live u ∙ ap (λ (it : Rattle.std.specs.declared.vec.Vec.Vec (Option Rattle.cow_pages.specs.declared.table.Table.Table) Rattle.std.specs.declared.alloc.Global.Global). is_some (get_or it.items u None)) tables3;
-          len = c.put_counts.len ∙ ap (λ (it : Rattle.std.specs.declared.vec.Vec.Vec (Option Rattle.cow_pages.specs.declared.table.Table.Table) Rattle.std.specs.declared.alloc.Global.Global). length it.items) tables3;
+          live = λ u. c.put_counts.live u ∙ ap (λ (it : Rattle.std.specs.declared.vec.Vec.Vec (Option Rattle.page_tables.specs.declared.table.Table.Table) Rattle.std.specs.declared.alloc.Global.Global). is_some (get_or it.items u None)) tables3;
+          len = c.put_counts.len ∙ ap (λ (it : Rattle.std.specs.declared.vec.Vec.Vec (Option Rattle.page_tables.specs.declared.table.Table.Table) Rattle.std.specs.declared.alloc.Global.Global). length it.items) tables3;
         };
         frames = ap (λ (it : Store). it.frames) c.put_rest ∙ ap (λ (it : Store). it.frames) c.copied_rest ∙ ap (λ (it : Store). it.frames) c.shared_rest;
         frame_len = ap (λ (it : Shares). length it.counts) frame_is ∙ c.shared_len;

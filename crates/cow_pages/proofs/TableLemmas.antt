@@ -5,21 +5,21 @@ use Rattle.std.proofs.lemmas.List.{length-append, length-replicate, length-map, 
 use Rattle.std.proofs.lemmas.Bool.{cases_eq}
 use Rattle.std.proofs.lemmas.Option.{none-some}
 use Rattle.sharers.specs.Shares.{Shares, AreTallied, count_of}
-use Rattle.cow_pages.specs.declared.address.Window.{Window}
-use Rattle.cow_pages.specs.declared.leaf.Entry.{Entry}
-use Rattle.cow_pages.specs.declared.table.Counts.{Counts}
-use Rattle.cow_pages.specs.declared.table.Table.{Table}
+use Rattle.page_tables.specs.declared.address.Window.{Window}
+use Rattle.page_tables.specs.declared.leaf.Entry.{Entry}
+use Rattle.page_tables.specs.declared.table.Counts.{Counts}
+use Rattle.page_tables.specs.declared.table.Table.{Table}
 use Rattle.cow_pages.specs.declared.store.Store.{Store}
 use Rattle.cow_pages.specs.Memory.{page_at, is_live, used_leaves, IsSettled}
 use Rattle.cow_pages.specs.Change.{ChangesTable, KeepsRoom, OtherLeaves}
-use Rattle.cow_pages.specs.Counts.{count_in, no_counts}
-use Rattle.cow_pages.specs.Tables.{mapped_from, written_from, mapped_one, written_one}
-use Rattle.cow_pages.specs.Grid.{held, all_held}
+use Rattle.page_tables.specs.Counts.{count_in, no_counts}
+use Rattle.page_tables.specs.Tables.{mapped_from, written_from, mapped_one, written_one}
+use Rattle.page_tables.specs.Grid.{held, all_held}
 use Rattle.cow_pages.specs.Store.{Row, row_of, leaf_key, leaf_grid, table_grid, table_entries, bytes_of, frame_sharers, leaf_sharers, pages_kept, place_at, entry_in, entry_at, flat, page_of_entry, mapped_counts, written_counts, shown, spare_of, CountsSlots, IsCounted, IsKept, HasRoom, IsStore}
 use Rattle.cow_pages.specs.Steps.{SetsRow, KeepsLeaves, SameEntries, SameBytes, SeemsSame, AddsTable, Forks, Settled}
-use Rattle.cow_pages.proofs.GridLemmas.{held-empty}
+use Rattle.page_tables.proofs.GridLemmas.{held-empty}
 use Rattle.cow_pages.proofs.CountLemmas.{count-joined, count-here, count-other, held-le, take-all}
-use Rattle.cow_pages.proofs.CodeLemmas.{table-here}
+use Rattle.page_tables.proofs.ListLemmas.{table-here}
 use Rattle.cow_pages.proofs.ShownLemmas.{page_at-shown}
 use Rattle.cow_pages.proofs.StepLemmas.{HasPages-fewer, frames-same, leaves-row, entry_in-same}
 use Rattle.cow_pages.proofs.OpLemmas.{whole-same, fork_entries, fork_kept}
@@ -186,7 +186,7 @@ pub adds_no_row : (s new : Store) (u : ℕ) (table : Table) → AddsTable s new 
 adds_no_row s new u table adds = get_or-map row_of s.tables.items u None [] adds.within ∙ ap row_of adds.fresh
 
 pub adds_leaves : (s new : Store) (u : ℕ) (table : Table) → Adds s new u table → leaf_grid new ≡ leaf_grid s
-adds_leaves s new u table a = ap (λ (it : Rattle.std.specs.declared.vec.Vec.Vec Rattle.cow_pages.specs.declared.leaf.Leaf.Leaf Rattle.std.specs.declared.alloc.Global.Global). map (λ (it : Rattle.cow_pages.specs.declared.leaf.Leaf.Leaf). it.entries) it.items) a.leaves
+adds_leaves s new u table a = ap (λ (it : Rattle.std.specs.declared.vec.Vec.Vec Rattle.page_tables.specs.declared.leaf.Leaf.Leaf Rattle.std.specs.declared.alloc.Global.Global). map (λ (it : Rattle.page_tables.specs.declared.leaf.Leaf.Leaf). it.entries) it.items) a.leaves
 
 pub adds_keeps : (s new : Store) (u : ℕ) (table : Table) → Adds s new u table → KeepsLeaves s new
 adds_keeps s new u table a = record { leaves = adds_leaves s new u table a; sharers = λ f. ap (λ (it : Shares). count_of it f) a.frame_counts }
@@ -200,7 +200,7 @@ adds_sets s new u table a = record {
 }
 
 pub adds_bytes : (s new : Store) (u : ℕ) (table : Table) → Adds s new u table → SameBytes s new
-adds_bytes s new u table a f = ap (λ (it : Rattle.std.specs.declared.vec.Vec.Vec Rattle.cow_pages.specs.declared.frame.Frame.Frame Rattle.std.specs.declared.alloc.Global.Global). Rattle.cow_pages.specs.Frame.frame_bytes it.items f) a.frames
+adds_bytes s new u table a f = ap (λ (it : Rattle.std.specs.declared.vec.Vec.Vec Rattle.page_tables.specs.declared.frame.Frame.Frame Rattle.std.specs.declared.alloc.Global.Global). Rattle.page_tables.specs.Frame.frame_bytes it.items f) a.frames
 
 -- the entries of the other tables
 pub adds_entries : (s new : Store) (u : ℕ) (table : Table) → Adds s new u table → (v q : ℕ) → v ≢ u → entry_at new v q ≡ entry_at s v q
@@ -210,7 +210,7 @@ adds_entries s new u table a v q off =
 
 pub adds_room : (s new : Store) (u : ℕ) (table : Table) → HasRoom s → Adds s new u table → length table.leaves.items ≡ 1024 → HasRoom new
 adds_room s new u table room a rows =
-    let fs = ap (λ (it : Rattle.std.specs.declared.vec.Vec.Vec Rattle.cow_pages.specs.declared.frame.Frame.Frame Rattle.std.specs.declared.alloc.Global.Global). length it.items) a.frames in
+    let fs = ap (λ (it : Rattle.std.specs.declared.vec.Vec.Vec Rattle.page_tables.specs.declared.frame.Frame.Frame Rattle.std.specs.declared.alloc.Global.Global). length it.items) a.frames in
     record {
       frames = omega (arith, ap (λ (it : Shares). length it.counts) a.frame_counts, room.frames, fs);
       reads = omega (arith, room.reads, a.reads);
@@ -248,11 +248,11 @@ pub adds_store : (s new : Store) (u : ℕ) (table : Table) → IsStore s → IsK
     → IsCounted new u → IsStore new
 adds_store s new u table store also a rows filled counted =
     let pages : (l : ℕ) → pages_kept new l ≡ pages_kept s l = λ l.
-    ap (λ (it : Rattle.std.specs.declared.vec.Vec.Vec Rattle.cow_pages.specs.declared.leaf.Leaf.Leaf Rattle.std.specs.declared.alloc.Global.Global). get_or (map (λ (it : Rattle.cow_pages.specs.declared.leaf.Leaf.Leaf). it.mapped) it.items) l 0) a.leaves in
+    ap (λ (it : Rattle.std.specs.declared.vec.Vec.Vec Rattle.page_tables.specs.declared.leaf.Leaf.Leaf Rattle.std.specs.declared.alloc.Global.Global). get_or (map (λ (it : Rattle.page_tables.specs.declared.leaf.Leaf.Leaf). it.mapped) it.items) l 0) a.leaves in
     record {
       kept = also;
       room = adds_room s new u table store.room a rows;
-      slots = λ l. pages l ∙ store.slots l ∙ sym (ap (λ (g : List (List (Option Entry))). Rattle.cow_pages.specs.Leaf.present (get_or g l [])) (adds_leaves s new u table a));
+      slots = λ l. pages l ∙ store.slots l ∙ sym (ap (λ (g : List (List (Option Entry))). Rattle.page_tables.specs.Leaf.present (get_or g l [])) (adds_leaves s new u table a));
       filled = λ t i l is. elim (cases_eq t u) [
         | inl here ↦
             omega (
@@ -284,7 +284,7 @@ written-none w k [] none = refl
 written-none w k (o ∷ rest) none = omega (arith, ap (written_one w k) (none 0), written-none w (k + 1) rest (λ i. none (suc i)))
 
 pub count_in-none : (w : Window) → count_in no_counts w ≡ 0
-count_in-none w = Rattle.cow_pages.proofs.WindowLemmas.count-none w
+count_in-none w = Rattle.page_tables.proofs.WindowLemmas.count-none w
 
 pub get_or-no_leaf : (n i : ℕ) → get_or {A = Option ℕ} (replicate n None) i None ≡ None
 get_or-no_leaf zero i = refl
@@ -413,7 +413,7 @@ added s m new u table store wide seems a also = record {
       );
   room =
       keeps_room s new store also
-      (ap (λ (it : Rattle.std.specs.declared.vec.Vec.Vec Rattle.cow_pages.specs.declared.frame.Frame.Frame Rattle.std.specs.declared.alloc.Global.Global). length it.items) a.frames
+      (ap (λ (it : Rattle.std.specs.declared.vec.Vec.Vec Rattle.page_tables.specs.declared.frame.Frame.Frame Rattle.std.specs.declared.alloc.Global.Global). length it.items) a.frames
       ∙ ap (λ (it : Store). length it.frames.items) seems.rest)
       (a.len ∙ ap (λ (it : Store). length it.leaf_counts.counts) seems.rest)
       (ap (λ (it : Shares). it.spare) a.frame_counts ∙ ap (λ (it : Store). it.frame_counts.spare) seems.rest)

@@ -1,7 +1,7 @@
 -- Reads and writes of numbers of 2, 4 and 8 bytes, the lowest byte first.
 use Rattle.std.specs.Prelude.{◌≡◌, ◌≢◌, ◌⊎◌, ℕ, Result, OnOk, OnErr, IsOk}
 use Rattle.std.specs.Int.{Width, to_le_bytes}
-use Rattle.cow_pages.specs.Address.{page_of, leaf_index}
+use Rattle.page_tables.specs.Address.{page_of, leaf_index}
 use Rattle.cow_pages.specs.Memory.{Memory, HasOneSharer, IsShared, IsSound}
 use Rattle.cow_pages.specs.View.{View, view_of, bytes_at, WritesBytes, OthersSeen}
 use Rattle.cow_pages.specs.Change.{WritesPage, TakesOnCopy, OwnsLeaf, reads_after}

@@ -1,7 +1,8 @@
 -- What a call changes, and what stays as it was.
-use Rattle.std.specs.Prelude.{◌≡◌, ◌≢◌, ◌⊎◌, ℕ, ◌+◌, ◌≤◌, min, ◌^◌, ◌-◌, true, false, if◌then◌else◌, List, length, Option, Some, None, option_map, ◌++◌, take, drop, replicate}
+use Rattle.std.specs.Prelude.{◌≡◌, ◌≢◌, ◌⊎◌, ℕ, ◌+◌, ◌≤◌, min, ◌^◌, ◌-◌, true, false, if◌then◌else◌, List, Option, Some, None, option_map, replicate}
 use Rattle.model_numbers.specs.Numbers.{page_bytes}
-use Rattle.cow_pages.specs.Address.{page_of, offset_of, is_immune}
+use Rattle.page_tables.specs.Address.{page_of, offset_of, is_immune}
+use Rattle.page_tables.specs.Frame.{patched}
 use Rattle.cow_pages.specs.Memory.{Memory, Page, page_at, frame_at, is_live, HasOneSharer, IsShared, IsFree, used_frames, leaf_in, used_leaves, HasOwnLeaf, HasSharedLeaf, IsFreeLeaf}
 
 -- this page may have changed: every other page of every table is as it was, with its bytes, flag and frame
@@ -53,10 +54,6 @@ reads_after reads at = if is_immune at then min (reads + 1) (2 ^ 64 - 1) else re
 -- a page of zeros that is not written
 abbrev pub zero_page : ℕ → Page
 zero_page frame = record { bytes = replicate page_bytes 0; written = false; frame = frame }
-
--- the bytes with these put in from an offset on
-abbrev pub patched : List ℕ → ℕ → List ℕ → List ℕ
-patched bytes offset new = take offset bytes ++ new ++ drop (offset + length new) bytes
 
 -- a written page of these bytes
 abbrev pub written_page : List ℕ → ℕ → Page

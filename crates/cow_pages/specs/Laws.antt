@@ -2,8 +2,8 @@
 use Rattle.std.specs.Prelude.{◌≡◌, ◌≢◌, ◌↔◌, is_some, ℕ, ◌<◌, ◌^◌, false, List, count_by, Contains, Some, IsTrue, nat_eq}
 use Rattle.std.specs.Int.{w16, w32, w64, to_le_bytes}
 use Rattle.std.specs.List.{IsDistinct}
-use Rattle.cow_pages.specs.declared.address.Window.{Window}
-use Rattle.cow_pages.specs.Address.{page_of, first_page, page_count, is_in_window, leaf_index}
+use Rattle.page_tables.specs.declared.address.Window.{Window}
+use Rattle.page_tables.specs.Address.{page_of, first_page, page_count, is_in_window, leaf_index}
 use Rattle.cow_pages.specs.Memory.{Memory, frame_at, is_mapped, is_written, mapped_in, written_in, leaf_in, leaf_at}
 use Rattle.cow_pages.specs.View.{View, numbers_from, bytes_at, u16_at, u32_at, u64_at}
 

@@ -1,13 +1,7 @@
 pub mod Access
-pub mod Address
 pub mod Memory
 pub mod View
 pub mod Change
-pub mod Counts
-pub mod Frame
-pub mod Leaf
-pub mod Tables
-pub mod Grid
 pub mod Store
 pub mod Steps
 pub mod Only

@@ -2,8 +2,8 @@
 use Rattle.std.specs.Prelude.{◌≡◌, ◌≢◌, ℕ, ◌+◌, ◌-◌, ◌^◌, ◌<◌, ◌≤◌, min, ◌==◌, Bool, false, if◌then◌else◌, List, [], ◌∷◌, ◌++◌, length, map, All, count_by, Option, Some, None, is_some, option_map, slice_index_or, IsTrue, ◌&&◌, nat_le}
 use Rattle.std.specs.List.{list_any}
 use Rattle.model_numbers.specs.Numbers.{page_bytes}
-use Rattle.cow_pages.specs.declared.address.Window.{Window}
-use Rattle.cow_pages.specs.Address.{is_in, is_in_window, leaf_index}
+use Rattle.page_tables.specs.declared.address.Window.{Window}
+use Rattle.page_tables.specs.Address.{is_in, is_in_window, leaf_index}
 
 -- the bytes of a page, whether it was written since it was last settled, and the frame that it stands in
 pub record Page : Type 0 where

@@ -2,16 +2,17 @@
 use Rattle.std.specs.Prelude.{◌≡◌, ◌≢◌, ◌⊎◌, ℕ, ◌+◌, ◌<◌, ◌≤◌, ◌/◌, ◌%◌, ◌^◌, List, [], length, map, replicate, min, Option, Some, None, slice_index_or, slice_set, take, true, false, is_some, IsTrue, vec_len, vec_capacity}
 use Rattle.model_numbers.specs.Numbers.{page_bytes}
 use Rattle.sharers.specs.Shares.{Shares, AreTallied, count_of}
-use Rattle.cow_pages.specs.Address.{leaf_pages}
-use Rattle.cow_pages.specs.declared.address.Window.{Window}
-use Rattle.cow_pages.specs.declared.leaf.Entry.{Entry}
-use Rattle.cow_pages.specs.declared.table.Table.{Table}
+use Rattle.page_tables.specs.Address.{leaf_pages}
+use Rattle.page_tables.specs.declared.address.Window.{Window}
+use Rattle.page_tables.specs.declared.leaf.Entry.{Entry}
+use Rattle.page_tables.specs.declared.table.Table.{Table}
 use Rattle.cow_pages.specs.declared.store.Store.{Store}
 use Rattle.cow_pages.specs.Memory.{HasOneSharer}
-use Rattle.cow_pages.specs.Change.{ChangesPage, KeepsOrCopies, patched}
-use Rattle.cow_pages.specs.Grid.{cell, one_held, held}
-use Rattle.cow_pages.specs.Leaf.{no_leaf, cleared, one_mapped, one_written}
-use Rattle.cow_pages.specs.Tables.{window_of, mapped_one, written_one}
+use Rattle.page_tables.specs.Frame.{patched}
+use Rattle.cow_pages.specs.Change.{ChangesPage, KeepsOrCopies}
+use Rattle.page_tables.specs.Grid.{cell, one_held, held}
+use Rattle.page_tables.specs.Leaf.{no_leaf, cleared, one_mapped, one_written}
+use Rattle.page_tables.specs.Tables.{window_of, mapped_one, written_one}
 use Rattle.cow_pages.specs.Store.{Row, frame_key, leaf_key, leaf_grid, table_grid, bytes_of, frame_sharers, leaf_sharers, pages_kept, place_at, entry_at, mapped_kept, written_kept, shown, IsKept, HasRoom, CountsSlots, IsFilled, IsCounted}
 
 -- a table has this leaf at an index, or none, and the leaves' counts follow

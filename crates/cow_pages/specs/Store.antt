@@ -2,19 +2,19 @@
 use Rattle.std.specs.Prelude.{◌≡◌, ◌≢◌, ℕ, ◌+◌, ◌<◌, ◌/◌, ◌%◌, ◌^◌, if◌then◌else◌, List, [], ◌∷◌, ◌++◌, length, map, replicate, min, All, Option, Some, None, slice_index_or, true, is_some, IsTrue}
 use Rattle.model_numbers.specs.Numbers.{page_bytes}
 use Rattle.sharers.specs.Shares.{count_of, AreTallied}
-use Rattle.cow_pages.specs.Address.{is_in_window, leaf_pages, table_leaves}
+use Rattle.page_tables.specs.Address.{is_in_window, leaf_pages, table_leaves}
 use Rattle.cow_pages.specs.Memory.{Memory, Page, Table as Pages}
-use Rattle.cow_pages.specs.declared.address.Window.{Window}
-use Rattle.cow_pages.specs.declared.leaf.Entry.{Entry}
-use Rattle.cow_pages.specs.declared.leaf.Leaf.{Leaf}
-use Rattle.cow_pages.specs.declared.table.Counts.{Counts}
-use Rattle.cow_pages.specs.declared.table.Table.{Table}
+use Rattle.page_tables.specs.declared.address.Window.{Window}
+use Rattle.page_tables.specs.declared.leaf.Entry.{Entry}
+use Rattle.page_tables.specs.declared.leaf.Leaf.{Leaf}
+use Rattle.page_tables.specs.declared.table.Counts.{Counts}
+use Rattle.page_tables.specs.declared.table.Table.{Table}
 use Rattle.cow_pages.specs.declared.store.Store.{Store}
-use Rattle.cow_pages.specs.Counts.{count_in, no_counts}
-use Rattle.cow_pages.specs.Frame.{frame_bytes}
-use Rattle.cow_pages.specs.Leaf.{present}
-use Rattle.cow_pages.specs.Tables.{mapped_from, written_from}
-use Rattle.cow_pages.specs.Grid.{cell, all_held}
+use Rattle.page_tables.specs.Counts.{count_in, no_counts}
+use Rattle.page_tables.specs.Frame.{frame_bytes}
+use Rattle.page_tables.specs.Leaf.{present}
+use Rattle.page_tables.specs.Tables.{mapped_from, written_from}
+use Rattle.page_tables.specs.Grid.{cell, all_held}
 
 -- the places of a table, each with the number of its leaf
 abbrev pub Row : Type 0

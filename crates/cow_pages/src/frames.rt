@@ -2,14 +2,13 @@
 ghost use Rattle.std.specs.Prelude.{◌≡◌, ℕ, ◌≢◌, ◌⊎◌, ◌+◌, ◌≤◌, ◌%◌, max, [], ◌∷◌, true, false, IsTrue, IsOk, IfOk, OnOk, OnErr, Some, None, option_map};
 ghost use Rattle.std.specs.Int.{w16, w32, w64};
 ghost use Rattle.cow_pages.specs.Access.{ReadsNumber, WritesNumber};
-ghost use Rattle.cow_pages.specs.Address.{page_of, is_in_window, leaf_index};
+ghost use Rattle.page_tables.specs.Address.{page_of, is_in_window, leaf_index};
 ghost use Rattle.cow_pages.specs.Memory.{is_live, page_at, frame_at, leaf_in, leaf_at, used_leaves, is_mapped, is_written, mapped_in, written_in, used_frames, IsSettled, HasOneSharer, IsShared, IsFree, IsSound};
 ghost use Rattle.cow_pages.specs.View.{view_of, byte_at, u16_at, u32_at, u64_at, WritesBytes, SameView, OthersSeen, AllSeen, IsEmptyView, MapsPage, UnmapsPage};
 ghost use Rattle.cow_pages.specs.Change.{ChangesPage, ChangesTable, KeepsRoom, LeavesLeaf, OtherLeaves, OwnsLeaf, SameLeaves, TakesFrame, TakesOnCopy, TakesOne, FreesFrames, WritesPage, reads_after, MapsZeros, settled};
 
-use crate::address::{Addr, FrameNo, LeafNo, PageNo, TableNo, Window};
-use crate::frame::{u16_in, u32_in, u64_in};
 use crate::store::Store;
+use page_tables::{Addr, FrameNo, LeafNo, PageNo, TableNo, Window, u16_in, u32_in, u64_in};
 use std::alloc::{AllocError, Global};
 use std::marker::Model;
 

@@ -1,6 +1,6 @@
 //! Laws about what contracts see: they hold of every memory that is sound.
 ghost use Rattle.std.specs.Prelude.{◌≡◌, ◌≢◌, ◌⊎◌, ℕ, List, length, Some, None, IsTrue};
-ghost use Rattle.cow_pages.specs.declared.address.Window.{Window};
+ghost use Rattle.page_tables.specs.declared.address.Window.{Window};
 ghost use Rattle.cow_pages.specs.Memory.{Memory, IsSound, HasOneSharer, IsFree, page_at, frame_at, is_live, is_mapped, used_frames, used_leaves};
 ghost use Rattle.cow_pages.specs.Change.{ChangesPage, ChangesTable, MapsZeros, WritesPage, settled};
 ghost use Rattle.cow_pages.specs.Only.{OnlyTable};

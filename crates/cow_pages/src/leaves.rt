@@ -1,15 +1,14 @@
 //! The leaves of tables: shared from a fork to a write.
 ghost use Rattle.std.specs.Prelude.{◌≡◌, ◌≢◌, ℕ, ◌+◌, ◌-◌, ◌<◌, ◌≤◌, ◌^◌, [], length, Some, None, IsTrue, is_some, slice_set, slice_index_or};
 ghost use Rattle.sharers.specs.Shares.{AreTallied};
-ghost use Rattle.cow_pages.specs.Address.{leaf_pages, table_leaves};
+ghost use Rattle.page_tables.specs.Address.{leaf_pages, table_leaves};
 ghost use Rattle.cow_pages.specs.Change.{OwnsLeaf};
-ghost use Rattle.cow_pages.specs.Grid.{held};
+ghost use Rattle.page_tables.specs.Grid.{held};
 ghost use Rattle.cow_pages.specs.Store.{shown, frame_key, frame_sharers, leaf_sharers, leaf_grid, table_grid, place_at, pages_kept, CountsSlots, IsStore, IsReady};
 ghost use Rattle.cow_pages.specs.Steps.{KeepsCounts, KeepsRoomOf, SetsFrameCounts, TakesLeaf, CopiesLeaf, Ready};
 
-use crate::address::LEAF_PAGES;
-use crate::leaf::{Entry, Leaf};
 use crate::store::Store;
+use page_tables::{Entry, LEAF_PAGES, Leaf};
 
 impl Store {
     /// Puts a leaf at an index of a table, or none.

@@ -1,17 +1,14 @@
 //! Pages of a table: mapped, written and released.
 ghost use Rattle.std.specs.Prelude.{◌≡◌, ◌≢◌, ◌⊎◌, ℕ, ◌+◌, ◌<◌, ◌≤◌, ◌/◌, ◌%◌, length, IsOk, IfOk, OnOk, OnErr, Some, None, true, false, IsTrue, is_some, slice_index_or};
 ghost use Rattle.model_numbers.specs.Numbers.{page_bytes};
-ghost use Rattle.cow_pages.specs.Address.{page_of, offset_of, is_in_window, leaf_index, leaf_slot};
+ghost use Rattle.page_tables.specs.Address.{page_of, offset_of, is_in_window, leaf_index, leaf_slot};
 ghost use Rattle.cow_pages.specs.Memory.{is_live, is_mapped, page_at, HasOneSharer, IsShared, used_frames};
 ghost use Rattle.cow_pages.specs.Change.{ChangesPage, FreesFrames, KeepsRoom, LeavesLeaf, MapsZeros, OwnsLeaf, TakesFrame, TakesOnCopy, TakesOne, WritesPage};
 ghost use Rattle.cow_pages.specs.Store.{shown, spare_of, entry_at, place_at, frame_sharers, leaf_sharers, pages_kept, IsStore, IsReady};
 ghost use Rattle.cow_pages.specs.Steps.{IsCountedAt, KeepsCounts, LeavesPlace, Recounts, OwnsEntry, PutsBytes, Maps, Marks, Unmaps};
 
-use crate::address::{Addr, LEAF_PAGES};
-use crate::frame::put;
-use crate::leaf::Entry;
 use crate::store::Store;
-use crate::table::window_of;
+use page_tables::{Addr, Entry, LEAF_PAGES, put, window_of};
 use std::alloc::AllocError;
 
 impl Store {

@@ -2,14 +2,13 @@
 ghost use Rattle.std.specs.Prelude.{◌≡◌, ◌≢◌, ℕ, ◌+◌, ◌-◌, ◌<◌, ◌≤◌, ◌^◌, ◌++◌, length, replicate, IsOk, OnOk, OnErr, slice_set, vec_len, vec_capacity};
 ghost use Rattle.model_numbers.specs.Numbers.{page_bytes};
 ghost use Rattle.sharers.specs.Shares.{AreTallied};
-ghost use Rattle.cow_pages.specs.Frame.{zero_frame, frame_of};
-ghost use Rattle.cow_pages.specs.Leaf.{no_leaf};
+ghost use Rattle.page_tables.specs.Frame.{zero_frame, frame_of};
+ghost use Rattle.page_tables.specs.Leaf.{no_leaf};
 ghost use Rattle.cow_pages.specs.Store.{shown, bytes_of, spare_of, frame_sharers, leaf_sharers, IsStore};
 ghost use Rattle.cow_pages.specs.Steps.{HoldsFrame, HasSpace, AddsRoom};
 
-use crate::frame::{Frame, clear, copy_bytes};
-use crate::leaf::Leaf;
 use crate::store::Store;
+use page_tables::{Frame, Leaf, clear, copy_bytes};
 use std::alloc::AllocError;
 
 impl Store {

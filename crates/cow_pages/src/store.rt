@@ -1,15 +1,12 @@
 //! All frames, leaves and tables, and how an entry is found.
 ghost use Rattle.std.specs.Prelude.{◌≡◌, ◌<◌, [], length, IsTrue, is_some, slice_index_or};
-ghost use Rattle.cow_pages.specs.Address.{page_of, leaf_pages};
+ghost use Rattle.page_tables.specs.Address.{page_of, leaf_pages};
 ghost use Rattle.cow_pages.specs.Memory.{is_live, is_mapped, frame_at, leaf_at};
 ghost use Rattle.cow_pages.specs.Change.{reads_after};
-ghost use Rattle.cow_pages.specs.Grid.{cell};
+ghost use Rattle.page_tables.specs.Grid.{cell};
 ghost use Rattle.cow_pages.specs.Store.{shown, place_at, entry_at, leaf_grid, table_grid, IsStore};
 
-use crate::address::{ALL_PAGES, Addr, LEAF_PAGES};
-use crate::frame::Frame;
-use crate::leaf::{Entry, Leaf};
-use crate::table::Table;
+use page_tables::{ALL_PAGES, Addr, Entry, Frame, LEAF_PAGES, Leaf, Table};
 use sharers::Sharers;
 use std::alloc::Global;
 

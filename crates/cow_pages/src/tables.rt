@@ -1,18 +1,16 @@
 //! Tables that begin and end, and the flags of one.
 ghost use Rattle.std.specs.Prelude.{◌≡◌, ◌≢◌, ℕ, ◌+◌, ◌<◌, ◌≤◌, ◌^◌, [], length, replicate, IfOk, OnOk, OnErr, Some, None, false, IsTrue, is_some, slice_set, slice_index_or, vec_len, vec_capacity};
 ghost use Rattle.sharers.specs.Shares.{Shares, AreTallied, count_of};
-ghost use Rattle.cow_pages.specs.Address.{leaf_pages, table_leaves};
+ghost use Rattle.page_tables.specs.Address.{leaf_pages, table_leaves};
 ghost use Rattle.cow_pages.specs.Memory.{is_live, page_at, leaf_in, used_leaves, IsSettled};
 ghost use Rattle.cow_pages.specs.Change.{ChangesTable, FreesFrames, KeepsRoom, OtherLeaves, SameLeaves, settled};
-ghost use Rattle.cow_pages.specs.Grid.{held};
+ghost use Rattle.page_tables.specs.Grid.{held};
 ghost use Rattle.cow_pages.specs.Store.{shown, leaf_key, leaf_grid, leaf_sharers, frame_sharers, mapped_counts, written_counts, place_at, table_grid, IsKept, IsStore, HasRoom};
 ghost use Rattle.cow_pages.specs.declared.store.Store.{Store};
 ghost use Rattle.cow_pages.specs.Steps.{AddsTable, ClearsWritten, EmptiesLeaf, Ending, SeemsSame, SettlesLeaf};
 
-use crate::address::TABLE_LEAVES;
-use crate::leaf::Leaf;
 use crate::store::Store;
-use crate::table::{Counts, Table};
+use page_tables::{Counts, Leaf, TABLE_LEAVES, Table};
 use sharers::Sharers;
 use std::alloc::AllocError;
 

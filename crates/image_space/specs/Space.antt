@@ -2,8 +2,8 @@
 use Rattle.std.specs.Prelude.{◌≡◌, ℕ, ◌+◌, ◌-◌, ◌/◌, ◌%◌, ◌≤◌, ◌==◌, ◌||◌, nat_lt, IsTrue, List, [], ◌∷◌, sum}
 use Rattle.std.specs.List.{list_any}
 use Rattle.model_numbers.specs.Numbers.{image_base, image_length, page_bytes, most_array_bytes}
-use Rattle.cow_pages.specs.declared.address.Window.TheVariants.{Image}
-use Rattle.cow_pages.specs.Address.{first_page, is_in}
+use Rattle.page_tables.specs.declared.address.Window.TheVariants.{Image}
+use Rattle.page_tables.specs.Address.{first_page, is_in}
 use Rattle.cow_pages.specs.Memory.{Memory, is_mapped}
 use Rattle.mark_bitmap.specs.Marks.{Marks, is_marked}
 

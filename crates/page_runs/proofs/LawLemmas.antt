@@ -2,8 +2,8 @@
 use Rattle.std.proofs.Common.{◌≡◌, ◌≢◌, ◌⊎◌, ◌∙◌, ℕ, zero, suc, ◌+◌, ◌<◌, ◌≤◌, Bool, false, ◌&&◌, cond, count_by, true≢false, Option, Some, None, refl, sym, ap, inl, inr, arith, leb, ltb}
 use Rattle.std.specs.Prelude.{option_map, is_some}
 use Rattle.std.proofs.lemmas.Bool.{cases_lt, cond-true, le-leb, lt-leb, le-ltb, lt-ltb, and_from}
-use Rattle.cow_pages.specs.declared.address.Window.{Window}
-use Rattle.cow_pages.specs.Address.{first_page, page_count}
+use Rattle.page_tables.specs.declared.address.Window.{Window}
+use Rattle.page_tables.specs.Address.{first_page, page_count}
 use Rattle.cow_pages.specs.Memory.{Memory, Page, page_at, is_mapped, mapped_in, HasOneSharer, IsSound}
 use Rattle.cow_pages.specs.Change.{MapsZeros}
 use Rattle.cow_pages.specs.View.{numbers_from}

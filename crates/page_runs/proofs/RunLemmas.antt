@@ -5,7 +5,7 @@ use Rattle.std.proofs.lemmas.Bool.{cases_eq, cases_lt}
 use Rattle.std.proofs.lemmas.Option.{none-some}
 use Rattle.model_numbers.specs.Numbers.{page_bytes}
 use Rattle.cow_pages.specs.Memory.{Memory, Page, page_at, frame_at, is_live, is_mapped, used_frames, used_leaves, HasOneSharer, IsSound}
-use Rattle.cow_pages.specs.Address.{page_of, offset_of}
+use Rattle.page_tables.specs.Address.{page_of, offset_of}
 use Rattle.cow_pages.specs.Change.{ChangesPage, MapsZeros, TakesOne, FreesFrames}
 use Rattle.cow_pages.specs.Only.{OnlyTable}
 use Rattle.cow_pages.specs.View.{view_of, OthersSeen}

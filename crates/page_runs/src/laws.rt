@@ -1,7 +1,7 @@
 //! Laws about runs of pages.
 ghost use Rattle.std.specs.Prelude.{◌≡◌, ℕ, ◌+◌, ◌≤◌};
-ghost use Rattle.cow_pages.specs.declared.address.Window.{Window};
-ghost use Rattle.cow_pages.specs.Address.{first_page, page_count};
+ghost use Rattle.page_tables.specs.declared.address.Window.{Window};
+ghost use Rattle.page_tables.specs.Address.{first_page, page_count};
 ghost use Rattle.cow_pages.specs.Memory.{Memory, IsSound, mapped_in};
 ghost use Rattle.page_runs.specs.Runs.{HasRun, MapsRun};
 

@@ -1,6 +1,6 @@
 //! Mapping and releasing a run of pages, and no other page.
 ghost use Rattle.std.specs.Prelude.{◌≡◌, ℕ, ◌+◌, ◌≤◌, IsTrue, IsOk, OnOk, OnErr, None};
-ghost use Rattle.cow_pages.specs.Address.{is_in_window};
+ghost use Rattle.page_tables.specs.Address.{is_in_window};
 ghost use Rattle.cow_pages.specs.Memory.{is_live, is_mapped, page_at, HasOneSharer, IsSound};
 ghost use Rattle.cow_pages.specs.Only.{OnlyTable};
 ghost use Rattle.cow_pages.specs.View.{view_of, OthersSeen};

@@ -1,6 +1,6 @@
 use Rattle.std.proofs.Common.{◌+◌, ℕ, List, Option, refl, sym, ap, subst, ◌∙◌, arith}
 use Rattle.sharers.specs.Shares.{Shares, count_of}
-use Rattle.cow_pages.specs.Grid.{held}
+use Rattle.page_tables.specs.Grid.{held}
 use Rattle.cow_pages.specs.Store.{leaf_key}
 use Rattle.cow_pages.specs.Steps.{SharesLeaves}
 use Rattle.cow_pages.proofs.CountLemmas.{held-none, held-le, take-all, share_leaf, share_no_leaf}

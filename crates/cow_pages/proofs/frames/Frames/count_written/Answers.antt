@@ -1,9 +1,9 @@
 use Rattle.std.proofs.Common.{Option, None, is_some, true≢false, arith, ap, sym, ◌∙◌, refl}
 use Rattle.std.proofs.lemmas.List.{get_or_default}
-use Rattle.cow_pages.specs.declared.table.Table.{Table}
-use Rattle.cow_pages.specs.Counts.{count_in}
+use Rattle.page_tables.specs.declared.table.Table.{Table}
+use Rattle.page_tables.specs.Counts.{count_in}
 use Rattle.cow_pages.specs.Store.{written_counts}
-use Rattle.cow_pages.proofs.CodeLemmas.{live_within, table_is}
+use Rattle.page_tables.proofs.ListLemmas.{live_within, table_is}
 use Rattle.cow_pages.proofs.ReadLemmas.{live_there, written_in-shown}
 use Rattle.cow_pages.proofs.frames.Frames.count_written.Goals as goal
 

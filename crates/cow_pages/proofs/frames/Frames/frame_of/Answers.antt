@@ -1,6 +1,6 @@
 use Rattle.std.proofs.Common.{sym, ◌∙◌, ap}
 use Rattle.std.specs.Prelude.{option_map}
-use Rattle.cow_pages.specs.declared.leaf.Entry.{Entry}
+use Rattle.page_tables.specs.declared.leaf.Entry.{Entry}
 use Rattle.cow_pages.proofs.ShownLemmas.{frame-shown}
 use Rattle.cow_pages.proofs.SoundLemmas.{sound}
 use Rattle.cow_pages.proofs.frames.Frames.frame_of.Goals as goal

@@ -1,5 +1,5 @@
 use Rattle.std.proofs.Common.{ap, is_some}
-use Rattle.cow_pages.specs.Address.{page_of}
+use Rattle.page_tables.specs.Address.{page_of}
 use Rattle.cow_pages.proofs.SoundLemmas.{sound}
 use Rattle.cow_pages.proofs.RoomLemmas.{on_err}
 use Rattle.cow_pages.proofs.ViewLemmas.{OthersSeen-table}

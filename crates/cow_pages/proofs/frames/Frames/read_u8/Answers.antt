@@ -1,6 +1,6 @@
 use Rattle.std.proofs.Common.{sym, ◌∙◌, ◌≡◌, ap, subst, arith, ℕ, List, get_or}
 use Rattle.std.specs.Prelude.{slice_index}
-use Rattle.cow_pages.specs.Address.{offset_of}
+use Rattle.page_tables.specs.Address.{offset_of}
 use Rattle.cow_pages.specs.declared.store.Store.{Store}
 use Rattle.cow_pages.specs.Store.{shown, IsStore}
 use Rattle.cow_pages.proofs.SoundLemmas.{sound}

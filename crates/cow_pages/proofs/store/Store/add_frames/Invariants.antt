@@ -1,6 +1,6 @@
 use Rattle.std.proofs.Common.{◌≡◌, ◌+◌, ◌++◌, ◌≤◌, vec_len, vec_capacity}
 use Rattle.std.specs.Prelude.{replicate}
-use Rattle.cow_pages.specs.Frame.{zero_frame}
+use Rattle.page_tables.specs.Frame.{zero_frame}
 use Rattle.cow_pages.proofs.store.Store.add_frames.Given as goal
 
 abbrev pub invariant-loop-i : goal.invariant-loop-i

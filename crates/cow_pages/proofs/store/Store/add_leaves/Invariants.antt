@@ -1,6 +1,6 @@
 use Rattle.std.proofs.Common.{◌≡◌, ◌+◌, ◌++◌, ◌≤◌, vec_len, vec_capacity}
 use Rattle.std.specs.Prelude.{replicate}
-use Rattle.cow_pages.specs.Leaf.{no_leaf}
+use Rattle.page_tables.specs.Leaf.{no_leaf}
 use Rattle.cow_pages.proofs.store.Store.add_leaves.Given as goal
 
 abbrev pub invariant-loop-i : goal.invariant-loop-i

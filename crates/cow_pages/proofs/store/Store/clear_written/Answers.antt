@@ -1,11 +1,12 @@
 use Rattle.std.proofs.Common.{◌≡◌, Option, None, List, refl, sym, ap, ◌∙◌}
-use Rattle.cow_pages.specs.declared.table.Counts.{Counts}
-use Rattle.cow_pages.specs.declared.table.Table.{Table}
+use Rattle.page_tables.specs.declared.table.Counts.{Counts}
+use Rattle.page_tables.specs.declared.table.Table.{Table}
 use Rattle.cow_pages.specs.declared.store.Store.{Store}
-use Rattle.cow_pages.specs.Counts.{count_in}
+use Rattle.page_tables.specs.Counts.{count_in}
 use Rattle.cow_pages.specs.Store.{mapped_counts, written_counts}
-use Rattle.cow_pages.proofs.WindowLemmas.{count-none}
-use Rattle.cow_pages.proofs.CodeLemmas.{live_within, table_is, ReplacesTable, replaced-here, replaced-other, replaced-live, replaced-len, replaced-grid}
+use Rattle.page_tables.proofs.WindowLemmas.{count-none}
+use Rattle.page_tables.proofs.ListLemmas.{live_within, table_is}
+use Rattle.cow_pages.proofs.CodeLemmas.{ReplacesTable, replaced-here, replaced-other, replaced-live, replaced-len, replaced-grid}
 use Rattle.cow_pages.proofs.store.Store.clear_written.Goals as goal
 
 pub returns : goal.returns

@@ -2,11 +2,11 @@ use Rattle.std.proofs.Common.{rules, ◌≡◌, ◌≤◌, ◌/◌, ◌%◌, ◌
 use Rattle.std.specs.Prelude.{is_ok}
 use Rattle.std.proofs.lemmas.Bool.{cases_lt}
 use Rattle.cow_pages.specs.Memory.{IsShared}
-use Rattle.cow_pages.specs.declared.leaf.Entry.{Entry}
+use Rattle.page_tables.specs.declared.leaf.Entry.{Entry}
 use Rattle.cow_pages.specs.declared.store.Store.{Store}
 use Rattle.cow_pages.specs.Store.{leaf_grid, shown, spare_of, CountsSlots}
 use Rattle.cow_pages.specs.Steps.{OwnsEntry}
-use Rattle.cow_pages.proofs.WindowLemmas.{window_below}
+use Rattle.page_tables.proofs.WindowLemmas.{window_below}
 use Rattle.cow_pages.proofs.SharedLemmas.{leaf_length, stands}
 use Rattle.cow_pages.proofs.SoundLemmas.{leaf_there, entry_within}
 use Rattle.cow_pages.proofs.SeenLemmas.{live-shown}

@@ -1,9 +1,9 @@
 use Rattle.std.proofs.Common.{ℕ, List, [], length, get_or, None, is_some, ap, ◌∙◌, arith}
 use Rattle.std.proofs.lemmas.List.{length-set, length-map}
-use Rattle.cow_pages.specs.declared.leaf.Leaf.{Leaf}
+use Rattle.page_tables.specs.declared.leaf.Leaf.{Leaf}
 use Rattle.cow_pages.specs.declared.store.Store.{Store}
 use Rattle.cow_pages.specs.Store.{table_grid}
-use Rattle.cow_pages.proofs.GridLemmas.{cell-column}
+use Rattle.page_tables.proofs.GridLemmas.{cell-column}
 use Rattle.cow_pages.proofs.SharedLemmas.{leaf_held, leaf_length, leaf_within}
 use Rattle.cow_pages.proofs.SoundLemmas.{leaf_there}
 use Rattle.cow_pages.proofs.ReadLemmas.{place_live}

@@ -1,7 +1,7 @@
 use Rattle.std.proofs.Common.{[], None, is_some, length, get_or, ap, ◌∙◌, arith}
 use Rattle.cow_pages.specs.declared.store.Store.{Store}
 use Rattle.cow_pages.specs.Store.{table_grid, leaf_sharers}
-use Rattle.cow_pages.proofs.GridLemmas.{cell-column}
+use Rattle.page_tables.proofs.GridLemmas.{cell-column}
 use Rattle.cow_pages.proofs.SharedLemmas.{leaf_held, leaf_within}
 use Rattle.cow_pages.proofs.SoundLemmas.{leaf_there}
 use Rattle.cow_pages.proofs.ReadLemmas.{place_live}

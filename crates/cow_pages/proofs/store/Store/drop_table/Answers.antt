@@ -3,7 +3,7 @@ use Rattle.std.specs.Vec.{with_item}
 use Rattle.sharers.specs.Shares.{count_of}
 use Rattle.cow_pages.specs.declared.store.Store.{Store}
 use Rattle.cow_pages.specs.Steps.{Ending}
-use Rattle.cow_pages.proofs.CodeLemmas.{live_within}
+use Rattle.page_tables.proofs.ListLemmas.{live_within}
 use Rattle.cow_pages.proofs.ReadLemmas.{live_there}
 use Rattle.cow_pages.proofs.EndLemmas.{ending_none, ending_skip, ended}
 use Rattle.cow_pages.proofs.store.Store.drop_table.Goals as goal

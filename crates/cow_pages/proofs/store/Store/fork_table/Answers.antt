@@ -1,6 +1,6 @@
 use Rattle.std.proofs.Common.{◌≡◌, ◌+◌, length, ap, ◌∙◌, arith}
 use Rattle.cow_pages.specs.declared.store.Store.{Store}
-use Rattle.cow_pages.specs.Grid.{held}
+use Rattle.page_tables.specs.Grid.{held}
 use Rattle.cow_pages.specs.Store.{Row, leaf_key, leaf_sharers}
 use Rattle.cow_pages.proofs.ReadLemmas.{live_there}
 use Rattle.cow_pages.proofs.RoomLemmas.{on_err}

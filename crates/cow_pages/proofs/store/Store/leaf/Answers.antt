@@ -3,7 +3,7 @@ use Rattle.std.specs.Prelude.{option_map}
 use Rattle.std.proofs.lemmas.Bool.{cond-true, cond-false}
 use Rattle.cow_pages.specs.Memory.{Page, is_mapped}
 use Rattle.cow_pages.specs.Store.{place_at, shown, page_of_entry, table_grid}
-use Rattle.cow_pages.proofs.GridLemmas.{cell-column}
+use Rattle.page_tables.proofs.GridLemmas.{cell-column}
 use Rattle.cow_pages.proofs.SharedLemmas.{stands}
 use Rattle.cow_pages.proofs.ShownLemmas.{page_at-shown}
 use Rattle.cow_pages.proofs.ReadLemmas.{live_there}

@@ -1,9 +1,9 @@
 use Rattle.std.proofs.Common.{◌/◌, ◌%◌, [], length, get_or, set, Some, None, sym, ap, subst, ◌∙◌, arith}
-use Rattle.cow_pages.specs.declared.leaf.Entry.{Entry}
+use Rattle.page_tables.specs.declared.leaf.Entry.{Entry}
 use Rattle.cow_pages.specs.declared.store.Store.{Store}
 use Rattle.cow_pages.specs.Store.{leaf_grid, CountsSlots}
 use Rattle.cow_pages.specs.Steps.{Recounts}
-use Rattle.cow_pages.proofs.WindowLemmas.{window_below}
+use Rattle.page_tables.proofs.WindowLemmas.{window_below}
 use Rattle.cow_pages.proofs.SharedLemmas.{leaf_length}
 use Rattle.cow_pages.proofs.SoundLemmas.{leaf_there}
 use Rattle.cow_pages.proofs.ReadLemmas.{place_live}

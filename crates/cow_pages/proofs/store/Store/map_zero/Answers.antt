@@ -1,6 +1,6 @@
 use Rattle.std.proofs.Common.{rules, ◌-◌, true≢false, sym, ap, ◌∙◌, arith}
 use Rattle.std.specs.Prelude.{is_ok}
-use Rattle.cow_pages.proofs.WindowLemmas.{window_below}
+use Rattle.page_tables.proofs.WindowLemmas.{window_below}
 use Rattle.cow_pages.proofs.ReadLemmas.{live_there}
 use Rattle.cow_pages.proofs.SlotLemmas.{reserved_pages, entry_none}
 use Rattle.cow_pages.proofs.CopyLemmas.{reserved_live, mapped_zero}

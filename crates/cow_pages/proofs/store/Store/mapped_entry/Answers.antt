@@ -1,7 +1,7 @@
 use Rattle.std.proofs.Common.{◌/◌, ◌%◌, ℕ, Option, sym, ap, ◌∙◌}
 use Rattle.std.proofs.lemmas.Option.{none-some}
 use Rattle.cow_pages.specs.Store.{table_grid, entry_in}
-use Rattle.cow_pages.proofs.GridLemmas.{cell-column}
+use Rattle.page_tables.proofs.GridLemmas.{cell-column}
 use Rattle.cow_pages.proofs.SharedLemmas.{stands}
 use Rattle.cow_pages.proofs.SoundLemmas.{leaf_there}
 use Rattle.cow_pages.proofs.ReadLemmas.{mapped_entry, place_live}

@@ -1,11 +1,11 @@
 use Rattle.std.proofs.Common.{◌/◌, ◌%◌, [], get_or, set, Some, sym, ap, subst, ◌∙◌}
 use Rattle.std.proofs.lemmas.Option.{none-some}
-use Rattle.cow_pages.specs.declared.leaf.Entry.{Entry}
+use Rattle.page_tables.specs.declared.leaf.Entry.{Entry}
 use Rattle.cow_pages.specs.declared.store.Store.{Store}
 use Rattle.cow_pages.specs.Store.{leaf_grid, table_grid}
 use Rattle.cow_pages.specs.Steps.{Recounts}
-use Rattle.cow_pages.proofs.WindowLemmas.{window_below}
-use Rattle.cow_pages.proofs.GridLemmas.{cell-column}
+use Rattle.page_tables.proofs.WindowLemmas.{window_below}
+use Rattle.page_tables.proofs.GridLemmas.{cell-column}
 use Rattle.cow_pages.proofs.SharedLemmas.{leaf_length, stands}
 use Rattle.cow_pages.proofs.SoundLemmas.{leaf_there}
 use Rattle.cow_pages.proofs.ReadLemmas.{place_live}

@@ -2,7 +2,7 @@ use Rattle.std.proofs.Common.{◌≢◌, ◌⊎◌, ◌/◌, sym, ◌∙◌, inl
 use Rattle.std.proofs.lemmas.Option.{none-some}
 use Rattle.cow_pages.specs.Memory.{IsShared}
 use Rattle.cow_pages.specs.Store.{shown, table_grid, frame_sharers, leaf_sharers}
-use Rattle.cow_pages.proofs.GridLemmas.{cell-column}
+use Rattle.page_tables.proofs.GridLemmas.{cell-column}
 use Rattle.cow_pages.proofs.CountLemmas.{count-within}
 use Rattle.cow_pages.proofs.RoomLemmas.{not_shared}
 use Rattle.cow_pages.proofs.SharedLemmas.{stands, leaf_held, leaf_within, frame_held}

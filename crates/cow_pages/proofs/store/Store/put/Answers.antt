@@ -1,8 +1,8 @@
 use Rattle.std.proofs.Common.{◌<◌, ℕ, List, [], length, set, refl, sym, ap, subst, ◌∙◌, arith}
 use Rattle.std.proofs.lemmas.List.{get_or_default}
-use Rattle.cow_pages.specs.declared.frame.Frame.{Frame}
-use Rattle.cow_pages.specs.Change.{patched}
-use Rattle.cow_pages.proofs.CodeLemmas.{field-was}
+use Rattle.page_tables.specs.declared.frame.Frame.{Frame}
+use Rattle.page_tables.specs.Frame.{patched}
+use Rattle.page_tables.proofs.ListLemmas.{field-was}
 use Rattle.cow_pages.proofs.MarkLemmas.{put_store}
 use Rattle.cow_pages.proofs.store.Store.put.Goals as goal
 

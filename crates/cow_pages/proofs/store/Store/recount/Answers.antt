@@ -1,15 +1,16 @@
 use Rattle.std.proofs.Common.{◌≡◌, ◌+◌, ◌≤◌, ℕ, Option, None, Some, List, cond, refl, sym, ap, subst, ◌∙◌, arith}
-use Rattle.cow_pages.specs.declared.address.Window.{Window}
-use Rattle.cow_pages.specs.declared.leaf.Entry.{Entry}
-use Rattle.cow_pages.specs.declared.table.Table.{Table}
+use Rattle.page_tables.specs.declared.address.Window.{Window}
+use Rattle.page_tables.specs.declared.leaf.Entry.{Entry}
+use Rattle.page_tables.specs.declared.table.Table.{Table}
 use Rattle.cow_pages.specs.declared.store.Store.{Store}
-use Rattle.cow_pages.specs.Counts.{count_in}
-use Rattle.cow_pages.specs.Leaf.{one_mapped, one_written}
+use Rattle.page_tables.specs.Counts.{count_in}
+use Rattle.page_tables.specs.Leaf.{one_mapped, one_written}
 use Rattle.cow_pages.specs.Store.{mapped_counts, written_counts}
-use Rattle.cow_pages.specs.Tables.{mapped_one, written_one}
-use Rattle.cow_pages.proofs.WindowLemmas.{same_window, recounted}
-use Rattle.cow_pages.proofs.LeafLemmas.{mapped_one-own, written_one-own}
-use Rattle.cow_pages.proofs.CodeLemmas.{live_within, table_is, ReplacesTable, replaced-here, replaced-other, replaced-live, replaced-len, replaced-grid}
+use Rattle.page_tables.specs.Tables.{mapped_one, written_one}
+use Rattle.page_tables.proofs.WindowLemmas.{same_window, recounted}
+use Rattle.page_tables.proofs.LeafLemmas.{mapped_one-own, written_one-own}
+use Rattle.page_tables.proofs.ListLemmas.{live_within, table_is}
+use Rattle.cow_pages.proofs.CodeLemmas.{ReplacesTable, replaced-here, replaced-other, replaced-live, replaced-len, replaced-grid}
 use Rattle.cow_pages.proofs.store.Store.recount.Goals as goal
 
 pub returns-clause-recounts : goal.returns-clause-recounts

@@ -1,9 +1,9 @@
 use Rattle.std.proofs.Common.{◌≢◌, ◌<◌, ◌/◌, sym, ◌∙◌, arith}
 use Rattle.std.proofs.lemmas.Option.{none-some}
-use Rattle.cow_pages.specs.declared.leaf.Leaf.{Leaf}
+use Rattle.page_tables.specs.declared.leaf.Leaf.{Leaf}
 use Rattle.cow_pages.specs.Store.{table_grid, pages_kept}
-use Rattle.cow_pages.proofs.CodeLemmas.{field-was}
-use Rattle.cow_pages.proofs.GridLemmas.{cell-column}
+use Rattle.page_tables.proofs.ListLemmas.{field-was}
+use Rattle.page_tables.proofs.GridLemmas.{cell-column}
 use Rattle.cow_pages.proofs.SharedLemmas.{stands}
 use Rattle.cow_pages.proofs.SoundLemmas.{leaf_there}
 use Rattle.cow_pages.proofs.ReadLemmas.{mapped_entry, place_live}

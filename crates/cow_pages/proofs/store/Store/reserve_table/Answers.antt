@@ -1,7 +1,7 @@
 use Rattle.std.proofs.Common.{◌++◌, ℕ, List, None, Option, refl, sym, ap, ◌∙◌}
 use Rattle.std.specs.Prelude.{replicate}
 use Rattle.std.proofs.lemmas.List.{append-nil}
-use Rattle.cow_pages.specs.declared.table.Table.{Table}
+use Rattle.page_tables.specs.declared.table.Table.{Table}
 use Rattle.cow_pages.proofs.TableLemmas.{widened_store}
 use Rattle.cow_pages.proofs.store.Store.reserve_table.Goals as goal
 

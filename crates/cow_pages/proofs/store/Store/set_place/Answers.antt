@@ -1,5 +1,6 @@
 use Rattle.std.proofs.Common.{None, refl}
-use Rattle.cow_pages.proofs.CodeLemmas.{set_place_tables, live_within, table_is, keeps-counts}
+use Rattle.page_tables.proofs.ListLemmas.{live_within, table_is}
+use Rattle.cow_pages.proofs.CodeLemmas.{set_place_tables, keeps-counts}
 use Rattle.cow_pages.proofs.store.Store.set_place.Goals as goal
 
 pub returns-clause-grid : goal.returns-clause-grid

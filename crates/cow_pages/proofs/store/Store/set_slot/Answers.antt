@@ -1,9 +1,9 @@
 use Rattle.std.proofs.Common.{List, Option, length, set, map, sym, ap, ◌∙◌}
 use Rattle.std.proofs.lemmas.List.{map-set}
-use Rattle.cow_pages.specs.declared.leaf.Entry.{Entry}
-use Rattle.cow_pages.specs.declared.leaf.Leaf.{Leaf}
-use Rattle.cow_pages.specs.Leaf.{present}
-use Rattle.cow_pages.proofs.CodeLemmas.{entry_read, field-was, field-other, slots-set}
+use Rattle.page_tables.specs.declared.leaf.Entry.{Entry}
+use Rattle.page_tables.specs.declared.leaf.Leaf.{Leaf}
+use Rattle.page_tables.specs.Leaf.{present}
+use Rattle.page_tables.proofs.ListLemmas.{entry_read, field-was, field-other, slots-set}
 use Rattle.cow_pages.proofs.store.Store.set_slot.Goals as goal
 
 pub set-requires-clause-len : goal.set-requires-clause-len

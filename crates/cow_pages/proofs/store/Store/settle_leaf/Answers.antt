@@ -1,11 +1,11 @@
 use Rattle.std.proofs.Common.{◌≡◌, List, Option, [], length, get_or, set, map, refl, sym, ap, ◌∙◌, inl, inr}
 use Rattle.std.proofs.lemmas.List.{map-set}
 use Rattle.std.proofs.lemmas.Bool.{cases_eq}
-use Rattle.cow_pages.specs.declared.leaf.Entry.{Entry}
-use Rattle.cow_pages.specs.declared.leaf.Leaf.{Leaf}
-use Rattle.cow_pages.specs.Leaf.{present, cleared}
-use Rattle.cow_pages.proofs.LeafLemmas.{present-cleared}
-use Rattle.cow_pages.proofs.CodeLemmas.{entry_read, field-was, field-here, field-other, slots-set}
+use Rattle.page_tables.specs.declared.leaf.Entry.{Entry}
+use Rattle.page_tables.specs.declared.leaf.Leaf.{Leaf}
+use Rattle.page_tables.specs.Leaf.{present, cleared}
+use Rattle.page_tables.proofs.LeafLemmas.{present-cleared}
+use Rattle.page_tables.proofs.ListLemmas.{entry_read, field-was, field-here, field-other, slots-set}
 use Rattle.cow_pages.proofs.store.Store.settle_leaf.Goals as goal
 
 pub settle-requires : goal.settle-requires

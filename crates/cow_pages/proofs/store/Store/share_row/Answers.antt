@@ -1,6 +1,6 @@
 use Rattle.std.proofs.Common.{◌+◌, List, Some, None, [], length, get_or, Option, refl, ap, ◌∙◌, arith}
 use Rattle.sharers.specs.Shares.{count_of}
-use Rattle.cow_pages.specs.declared.leaf.Entry.{Entry}
+use Rattle.page_tables.specs.declared.leaf.Entry.{Entry}
 use Rattle.cow_pages.specs.declared.store.Store.{Store}
 use Rattle.cow_pages.specs.Store.{leaf_grid, frame_key}
 use Rattle.cow_pages.proofs.CountLemmas.{held-le, held-none, take-all, share_step, share_none, read_slot}
@@ -64,7 +64,7 @@ returns c =
     let row = get_or (leaf_grid c.args.self.now) c.args.leaf [] in
     let all = take-all row c.loop-i.i (omega (arith, c.requires.len, c.loop-i-test.false)) in
     record {
-      sharers = λ f. c.loop-i.invariant.sharers f ∙ ap (λ (es : List (Option Entry)). count_of c.args.self.now.frame_counts f + Rattle.cow_pages.specs.Grid.held frame_key es f) all;
+      sharers = λ f. c.loop-i.invariant.sharers f ∙ ap (λ (es : List (Option Entry)). count_of c.args.self.now.frame_counts f + Rattle.page_tables.specs.Grid.held frame_key es f) all;
       spare = c.loop-i.invariant.spare;
       counts = record { len = c.loop-i.invariant.len; tallied = c.loop-i.invariant.tallied };
       rest = c.loop-i.invariant.rest;

@@ -1,6 +1,6 @@
 use Rattle.std.proofs.Common.{List, Option, None, get_or, sym, ap}
-use Rattle.cow_pages.specs.declared.leaf.Entry.{Entry}
-use Rattle.cow_pages.proofs.CodeLemmas.{entry_read}
+use Rattle.page_tables.specs.declared.leaf.Entry.{Entry}
+use Rattle.page_tables.proofs.ListLemmas.{entry_read}
 use Rattle.cow_pages.proofs.store.Store.slot.Goals as goal
 
 pub returns : goal.returns

@@ -1,7 +1,7 @@
 use Rattle.std.proofs.Common.{◌<◌, ℕ, List, [], length, set, sym, ap, ◌∙◌, arith}
 use Rattle.std.specs.Prelude.{replicate}
-use Rattle.cow_pages.specs.declared.frame.Frame.{Frame}
-use Rattle.cow_pages.proofs.CodeLemmas.{field-was}
+use Rattle.page_tables.specs.declared.frame.Frame.{Frame}
+use Rattle.page_tables.proofs.ListLemmas.{field-was}
 use Rattle.cow_pages.proofs.store.Store.take_zeros.Goals as goal
 
 pub returns-clause-frames : goal.returns-clause-frames

@@ -1,6 +1,6 @@
 use Rattle.std.proofs.Common.{◌/◌, Some, ap, arith}
 use Rattle.cow_pages.specs.declared.store.Store.{Store}
-use Rattle.cow_pages.proofs.WindowLemmas.{window_below}
+use Rattle.page_tables.proofs.WindowLemmas.{window_below}
 use Rattle.cow_pages.proofs.CountLemmas.{count-within}
 use Rattle.cow_pages.proofs.SharedLemmas.{leaf_length}
 use Rattle.cow_pages.proofs.SoundLemmas.{leaf_there}

@@ -1,7 +1,7 @@
 use Rattle.std.proofs.Common.{◌+◌, List, Some, None, [], length, get_or, Option, refl, sym, ap, ◌∙◌, arith, inl, inr}
 use Rattle.std.proofs.lemmas.Bool.{cases_eq}
 use Rattle.sharers.specs.Shares.{count_of}
-use Rattle.cow_pages.specs.declared.leaf.Entry.{Entry}
+use Rattle.page_tables.specs.declared.leaf.Entry.{Entry}
 use Rattle.cow_pages.specs.declared.store.Store.{Store}
 use Rattle.cow_pages.specs.Store.{leaf_grid, frame_key}
 use Rattle.cow_pages.proofs.CountLemmas.{held-none, take-all, unshare_step, unshare_none, unshares_there, read_slot}
@@ -61,7 +61,7 @@ returns c =
     let row = get_or (leaf_grid c.args.self.now) c.args.leaf [] in
     let all = take-all row c.loop-i.i (omega (arith, c.requires.len, c.loop-i-test.false)) in
     record {
-      sharers = λ f. ap (λ (es : List (Option Entry)). count_of c.loop-i.self.frame_counts f + Rattle.cow_pages.specs.Grid.held frame_key es f) (sym all) ∙ c.loop-i.invariant.sharers f;
+      sharers = λ f. ap (λ (es : List (Option Entry)). count_of c.loop-i.self.frame_counts f + Rattle.page_tables.specs.Grid.held frame_key es f) (sym all) ∙ c.loop-i.invariant.sharers f;
       spare = c.loop-i.invariant.spare;
       counts = record { len = c.loop-i.invariant.len; tallied = c.loop-i.invariant.tallied };
       rest = c.loop-i.invariant.rest;

@@ -1,5 +1,5 @@
 use Rattle.std.proofs.Common.{rules, ◌≡◌, ◌≢◌, ◌⊎◌, length, Some, IsTrue, true≢false, sym, ap, subst, arith}
-use Rattle.cow_pages.specs.Address.{leaf_index}
+use Rattle.page_tables.specs.Address.{leaf_index}
 use Rattle.cow_pages.specs.Memory.{is_mapped, HasOneSharer, IsShared}
 use Rattle.cow_pages.specs.Change.{OwnsLeaf, TakesOnCopy}
 use Rattle.cow_pages.specs.declared.store.Store.{Store}

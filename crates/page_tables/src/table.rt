@@ -1,9 +1,9 @@
 //! A page table: a leaf for each 1,024 pages.
 ghost use Rattle.std.specs.Prelude.{◌≡◌, ◌+◌, ◌-◌, ◌<◌, ◌≤◌, ◌^◌, replicate, IfOk, None, IsTrue};
-ghost use Rattle.cow_pages.specs.Address.{is_in_window, table_leaves};
-ghost use Rattle.cow_pages.specs.Counts.{count_in, with_count, no_counts};
-ghost use Rattle.cow_pages.specs.Leaf.{one_mapped, one_written};
-ghost use Rattle.cow_pages.specs.Tables.{window_of};
+ghost use Rattle.page_tables.specs.Address.{is_in_window, table_leaves};
+ghost use Rattle.page_tables.specs.Counts.{count_in, with_count, no_counts};
+ghost use Rattle.page_tables.specs.Leaf.{one_mapped, one_written};
+ghost use Rattle.page_tables.specs.Tables.{window_of};
 
 use crate::address::{LARGE_PAGE, REGIONS_PAGE, TABLE_LEAVES, Window, ZYGOTE_PAGE};
 use crate::leaf::Entry;
@@ -12,17 +12,24 @@ use std::alloc::{AllocError, Global};
 /// A count for each window.
 #[derive(Clone, Copy)]
 pub struct Counts {
+    /// That of the image window.
     pub image: u32,
+    /// That of the zygote window.
     pub zygote: u32,
+    /// That of the regions.
     pub regions: u32,
+    /// That of the large slots.
     pub large: u32,
 }
 
 /// The leaves of a table, each by its number.
 #[derive(Drop)]
 pub struct Table {
+    /// By index: none where the table has no page.
     pub leaves: Vec<Option<u32>>,
+    /// How many pages are mapped.
     pub mapped: Counts,
+    /// How many of them have their flag set.
     pub written: Counts,
 }
 
@@ -44,6 +51,7 @@ pub fn window_of(page: u32) -> Window
 }
 
 impl Counts {
+    /// Nothing counted.
     pub fn zero() -> Counts
         ensures { result ≡ record { image = 0; zygote = 0; regions = 0; large = 0 } }
     {
@@ -55,6 +63,7 @@ impl Counts {
         }
     }
 
+    /// The count of a window.
     pub fn get(&self, window: Window) -> u32
         ensures { result ≡ count_in self.now window }
     {
@@ -66,6 +75,7 @@ impl Counts {
         }
     }
 
+    /// Sets the count of a window.
     pub fn set(&mut self, window: Window, count: u32)
         ensures { self.new ≡ with_count self.old window count }
     {
@@ -77,6 +87,7 @@ impl Counts {
         }
     }
 
+    /// Adds 1 to the count of a window.
     pub fn raise(&mut self, window: Window)
         requires { count_in self.old window + 1 < 2 ^ 32 }
         ensures { self.new ≡ with_count self.old window (count_in self.old window + 1) }
@@ -84,6 +95,7 @@ impl Counts {
         self.set(window, self.get(window) + 1);
     }
 
+    /// Takes 1 from the count of a window.
     pub fn lower(&mut self, window: Window)
         requires { 0 < count_in self.old window }
         ensures { self.new ≡ with_count self.old window (count_in self.old window - 1) }

@@ -1,9 +1,10 @@
--- The entries of a leaf. No public clause cites this module.
+-- The entries of a leaf.
 use Rattle.std.specs.Prelude.{ℕ, ◌+◌, false, List, [], ◌∷◌, Option, Some, None, option_map, replicate, if◌then◌else◌}
-use Rattle.cow_pages.specs.Address.{leaf_pages}
-use Rattle.cow_pages.specs.declared.leaf.Entry.{Entry}
-use Rattle.cow_pages.specs.declared.leaf.Leaf.{Leaf}
+use Rattle.page_tables.specs.Address.{leaf_pages}
+use Rattle.page_tables.specs.declared.leaf.Entry.{Entry}
+use Rattle.page_tables.specs.declared.leaf.Leaf.{Leaf}
 
+-- a leaf without a mapped page
 abbrev pub no_leaf : Leaf
 no_leaf = record { entries = replicate leaf_pages None; mapped = 0 }
 

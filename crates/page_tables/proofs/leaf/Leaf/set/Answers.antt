@@ -1,6 +1,6 @@
 use Rattle.std.proofs.Common.{None, arith}
-use Rattle.cow_pages.proofs.LeafLemmas.{present-set, present-le, one_mapped-le}
-use Rattle.cow_pages.proofs.leaf.Leaf.set.Goals as goal
+use Rattle.page_tables.proofs.LeafLemmas.{present-set, present-le, one_mapped-le}
+use Rattle.page_tables.proofs.leaf.Leaf.set.Goals as goal
 
 pub overflow_sub-self : goal.overflow_sub-self
 overflow_sub-self c =

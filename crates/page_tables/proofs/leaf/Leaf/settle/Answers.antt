@@ -1,8 +1,8 @@
 use Rattle.std.proofs.Common.{◌≡◌, ◌<◌, None, length, map, arith, ap, sym, ◌∙◌, below_more}
 use Rattle.std.proofs.lemmas.List.{ext_get_or, length-map, length-set, get_or-set_same, get_or-set_other}
-use Rattle.cow_pages.specs.Leaf.{cleared}
-use Rattle.cow_pages.proofs.LeafLemmas.{cleared-at}
-use Rattle.cow_pages.proofs.leaf.Leaf.settle.Goals as goal
+use Rattle.page_tables.specs.Leaf.{cleared}
+use Rattle.page_tables.proofs.LeafLemmas.{cleared-at}
+use Rattle.page_tables.proofs.leaf.Leaf.settle.Goals as goal
 
 pub loop-i-preserved : goal.loop-i-preserved
 loop-i-preserved c =

@@ -1,6 +1,6 @@
 use Rattle.std.proofs.Common.{◌≡◌, ◌<◌, ◌≤◌, ℕ, None, get_or, length}
-use Rattle.cow_pages.specs.Leaf.{cleared}
-use Rattle.cow_pages.proofs.leaf.Leaf.settle.Given as goal
+use Rattle.page_tables.specs.Leaf.{cleared}
+use Rattle.page_tables.proofs.leaf.Leaf.settle.Given as goal
 
 abbrev pub invariant-loop-i : goal.invariant-loop-i
 invariant-loop-i l = record {

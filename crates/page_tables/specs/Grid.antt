@@ -5,9 +5,11 @@ use Rattle.std.specs.Prelude.{ℕ, ◌+◌, ◌==◌, if◌then◌else◌, List,
 abbrev pub cell : {E : Type 0} → List (List (Option E)) → ℕ → ℕ → Option E
 cell g r c = slice_index_or (slice_index_or g r []) c None
 
+-- 1 where a key is this one
 abbrev pub one : ℕ → ℕ → ℕ
 one a x = if a == x then 1 else 0
 
+-- 1 where a place has an entry of this key
 abbrev pub one_held : {E : Type 0} → (E → ℕ) → Option E → ℕ → ℕ
 one_held key None x = 0
 one_held key (Some e) x = one (key e) x

@@ -3,7 +3,7 @@ use Rattle.std.proofs.Common.{◌≡◌, ℕ, ◌+◌, ◌-◌, ◌<◌, ◌≤�
 use Rattle.std.specs.Prelude.{All, take, drop}
 use Rattle.std.proofs.lemmas.List.{length-append, length-take, length-drop, get_or_append_left, get_or-append_right, get_or-take, get_or-drop}
 use Rattle.std.proofs.lemmas.Bool.{cases_lt}
-use Rattle.cow_pages.specs.Change.{patched}
+use Rattle.page_tables.specs.Frame.{patched}
 
 -- an element before, among and after those that were put in
 pub patched-before : (bs : List ℕ) (o : ℕ) (new : List ℕ) (k d : ℕ) → o + length new ≤ length bs → k < o → get_or (patched bs o new) k d ≡ get_or bs k d

@@ -3,7 +3,7 @@ use Rattle.std.proofs.Common.{◌≡◌, ◌≢◌, ◌⊎◌, ℕ, zero, suc, �
 use Rattle.std.proofs.lemmas.List.{get_or_past, get_or-set_same, get_or-set_other}
 use Rattle.std.proofs.lemmas.Bool.{cases_eq, cases_lt, eq-eqb, ne_eqb, cond-true, cond-false}
 use Rattle.std.proofs.lemmas.Option.{none-some}
-use Rattle.cow_pages.specs.Grid.{cell, one, one_held, held, all_held}
+use Rattle.page_tables.specs.Grid.{cell, one, one_held, held, all_held}
 
 pub one-yes : (a x : ℕ) → a ≡ x → one a x ≡ 1
 one-yes a x same = cond-true {A = ℕ} (eqb a x) 1 0 (eq-eqb a x same)

@@ -1,6 +1,6 @@
 use Rattle.std.proofs.Common.{arith}
-use Rattle.cow_pages.proofs.CodeLemmas.{copied-up, copied-down}
-use Rattle.cow_pages.proofs.frame.copy_bytes.Goals as goal
+use Rattle.page_tables.proofs.ListLemmas.{copied-up, copied-down}
+use Rattle.page_tables.proofs.frame.copy_bytes.Goals as goal
 
 pub returns-then-from-to : goal.returns-then-from-to
 returns-then-from-to c =

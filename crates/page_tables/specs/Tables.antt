@@ -1,9 +1,9 @@
--- How a table counts its entries. No public clause cites this module.
+-- The window of a page, and how a table counts its entries.
 use Rattle.std.specs.Prelude.{ℕ, ◌+◌, ◌&&◌, nat_lt, if◌then◌else◌, List, [], ◌∷◌, Option, Some, None}
-use Rattle.cow_pages.specs.Address.{first_page, is_in}
-use Rattle.cow_pages.specs.declared.address.Window.{Window}
-use Rattle.cow_pages.specs.declared.address.Window.TheVariants.{Image, Zygote, Regions, Large}
-use Rattle.cow_pages.specs.declared.leaf.Entry.{Entry}
+use Rattle.page_tables.specs.Address.{first_page, is_in}
+use Rattle.page_tables.specs.declared.address.Window.{Window}
+use Rattle.page_tables.specs.declared.address.Window.TheVariants.{Image, Zygote, Regions, Large}
+use Rattle.page_tables.specs.declared.leaf.Entry.{Entry}
 
 -- the window of a page that lies in one
 abbrev pub window_of : ℕ → Window

@@ -1,14 +1,14 @@
 //! A frame: the bytes of a page.
 ghost use Rattle.std.specs.Prelude.{◌≡◌, ◌≢◌, ◌+◌, ◌≤◌, ◌<◌, [], ◌∷◌, ◌^◌, length, slice_index, slice_set, replicate};
 ghost use Rattle.std.specs.Int.{w16, w32, w64, from_le_bytes};
-ghost use Rattle.cow_pages.specs.Change.{patched};
-ghost use Rattle.cow_pages.specs.Frame.{zero_frame, frame_of};
+ghost use Rattle.page_tables.specs.Frame.{zero_frame, frame_of, patched};
 
 use model_numbers::PAGE_BYTES;
 
 /// The bytes of a page, which one entry of a leaf has, or several.
 #[derive(Drop)]
 pub struct Frame {
+    /// The bytes, from the first of the page on.
     pub bytes: [u8; PAGE_BYTES as usize],
 }
 
@@ -23,6 +23,7 @@ impl Frame {
     }
 }
 
+/// The number in 2 bytes, the lowest byte first.
 #[inline]
 pub fn u16_in(bytes: &[u8], offset: usize) -> u16
     requires { offset + 2 ≤ length bytes.now }
@@ -31,6 +32,7 @@ pub fn u16_in(bytes: &[u8], offset: usize) -> u16
     u16::from_le_bytes([bytes[offset], bytes[offset + 1]])
 }
 
+/// The number in 4 bytes, the lowest byte first.
 #[inline]
 pub fn u32_in(bytes: &[u8], offset: usize) -> u32
     requires { offset + 4 ≤ length bytes.now }
@@ -45,6 +47,7 @@ pub fn u32_in(bytes: &[u8], offset: usize) -> u32
     ])
 }
 
+/// The number in 8 bytes, the lowest byte first.
 #[inline]
 pub fn u64_in(bytes: &[u8], offset: usize) -> u64
     requires { offset + 8 ≤ length bytes.now }
@@ -65,6 +68,7 @@ pub fn u64_in(bytes: &[u8], offset: usize) -> u64
     ])
 }
 
+/// Puts bytes in from an offset on.
 #[inline]
 pub fn put(bytes: &mut [u8], offset: usize, new: &[u8])
     requires room { offset + length new.now ≤ length bytes.old }

@@ -1,12 +1,12 @@
 -- Windows, and a count for each of them.
 use Rattle.std.proofs.Common.{◌≡◌, ℕ, ◌+◌, ◌*◌, ◌-◌, ◌<◌, ◌≤◌, Bool, true, false, cond, ltb, leb, ◌&&◌, ◌||◌, IsTrue, refl, sym, ap, ◌∙◌, true≢false, ◌⊎◌, inl, inr, arith}
 use Rattle.std.proofs.lemmas.Bool.{ltb-true, leb-true, and_left, and_right, and_from, and_parts, cond-true, cond-false, le-leb, lt-ltb, le-ltb}
-use Rattle.cow_pages.specs.declared.address.Window.{Window}
-use Rattle.cow_pages.specs.declared.address.Window.TheVariants.{Image, Zygote, Regions, Large}
-use Rattle.cow_pages.specs.declared.table.Counts.{Counts}
-use Rattle.cow_pages.specs.Address.{is_in, is_in_window}
-use Rattle.cow_pages.specs.Counts.{count_in, with_count, no_counts}
-use Rattle.cow_pages.specs.Tables.{window_of}
+use Rattle.page_tables.specs.declared.address.Window.{Window}
+use Rattle.page_tables.specs.declared.address.Window.TheVariants.{Image, Zygote, Regions, Large}
+use Rattle.page_tables.specs.declared.table.Counts.{Counts}
+use Rattle.page_tables.specs.Address.{is_in, is_in_window}
+use Rattle.page_tables.specs.Counts.{count_in, with_count, no_counts}
+use Rattle.page_tables.specs.Tables.{window_of}
 
 -- whether two windows are the same
 abbrev pub same_window : Window → Window → Bool

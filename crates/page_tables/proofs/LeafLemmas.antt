@@ -2,12 +2,12 @@
 use Rattle.std.proofs.Common.{◌≡◌, ℕ, zero, suc, ◌+◌, ◌<◌, ◌≤◌, Bool, true, false, cond, List, [], ◌∷◌, map, length, get_or, set, Some, None, Option, IsTrue, refl, ap, ◌∙◌, arith, ◌&&◌}
 use Rattle.std.specs.Prelude.{replicate}
 use Rattle.std.proofs.lemmas.Bool.{cond-true}
-use Rattle.cow_pages.specs.declared.address.Window.{Window}
-use Rattle.cow_pages.specs.declared.leaf.Entry.{Entry}
-use Rattle.cow_pages.specs.Address.{is_in, is_in_window}
-use Rattle.cow_pages.specs.Leaf.{present, cleared, one_mapped, one_written}
-use Rattle.cow_pages.specs.Tables.{window_of, mapped_one, written_one, mapped_from, written_from}
-use Rattle.cow_pages.proofs.WindowLemmas.{same_window, same_window-same, in_own}
+use Rattle.page_tables.specs.declared.address.Window.{Window}
+use Rattle.page_tables.specs.declared.leaf.Entry.{Entry}
+use Rattle.page_tables.specs.Address.{is_in, is_in_window}
+use Rattle.page_tables.specs.Leaf.{present, cleared, one_mapped, one_written}
+use Rattle.page_tables.specs.Tables.{window_of, mapped_one, written_one, mapped_from, written_from}
+use Rattle.page_tables.proofs.WindowLemmas.{same_window, same_window-same, in_own}
 
 -- how many entries are there after one was put
 pub present-set : (es : List (Option Entry)) (i : ℕ) (o : Option Entry) → i < length es → present (set es i o) + one_mapped (get_or es i None) ≡ present es + one_mapped o

@@ -1,8 +1,8 @@
 -- A number for each window.
 use Rattle.std.specs.Prelude.{ℕ}
-use Rattle.cow_pages.specs.declared.address.Window.{Window}
-use Rattle.cow_pages.specs.declared.address.Window.TheVariants.{Image, Zygote, Regions, Large}
-use Rattle.cow_pages.specs.declared.table.Counts.{Counts}
+use Rattle.page_tables.specs.declared.address.Window.{Window}
+use Rattle.page_tables.specs.declared.address.Window.TheVariants.{Image, Zygote, Regions, Large}
+use Rattle.page_tables.specs.declared.table.Counts.{Counts}
 
 -- the number of a window
 abbrev pub count_in : Counts → Window → ℕ

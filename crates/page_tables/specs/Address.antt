@@ -1,8 +1,8 @@
 -- Addresses, pages and windows.
 use Rattle.std.specs.Prelude.{ℕ, ◌+◌, ◌*◌, ◌/◌, ◌%◌, Bool, ◌&&◌, ◌||◌, nat_le, nat_lt}
 use Rattle.model_numbers.specs.Numbers.{image_base, image_length, zygote_base, zygote_length, region_base, region_bytes, region_count, large_base, large_slot_bytes, large_slot_count, page_bytes}
-use Rattle.cow_pages.specs.declared.address.Window.{Window}
-use Rattle.cow_pages.specs.declared.address.Window.TheVariants.{Image, Zygote, Regions, Large}
+use Rattle.page_tables.specs.declared.address.Window.{Window}
+use Rattle.page_tables.specs.declared.address.Window.TheVariants.{Image, Zygote, Regions, Large}
 
 -- the page in which an address lies
 abbrev pub page_of : ℕ → ℕ

@@ -1,14 +1,16 @@
 //! A leaf: the entries of 1,024 pages.
 ghost use Rattle.std.specs.Prelude.{◌≡◌, ◌<◌, ◌^◌, length, map, None, true, false, slice_set};
-ghost use Rattle.cow_pages.specs.Address.{leaf_pages};
-ghost use Rattle.cow_pages.specs.Leaf.{no_leaf, present, cleared, one_mapped};
+ghost use Rattle.page_tables.specs.Address.{leaf_pages};
+ghost use Rattle.page_tables.specs.Leaf.{no_leaf, present, cleared, one_mapped};
 
 use crate::address::LEAF_PAGES;
 
 /// What a table has at a mapped page.
 #[derive(Clone, Copy)]
 pub struct Entry {
+    /// The number of its frame.
     pub frame: u32,
+    /// Whether the page was written since its table was last settled.
     pub written: bool,
 }
 
@@ -24,6 +26,7 @@ impl Entry {
         }
     }
 
+    /// The entry with its flag set.
     pub fn with_flag(self) -> Entry
         ensures { result ≡ record self { written = true } }
     {
@@ -37,6 +40,7 @@ impl Entry {
 /// The entries of 1,024 pages, which one table has, or several. One that no table has is empty.
 #[derive(Drop)]
 pub struct Leaf {
+    /// By slot: none where the page is not mapped.
     pub entries: [Option<Entry>; LEAF_PAGES],
     /// How many of the pages are mapped.
     pub mapped: u32,

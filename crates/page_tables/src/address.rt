@@ -1,6 +1,6 @@
-//! Addresses, the numbers of pages, frames and tables, and the windows of addresses.
+//! Addresses, the numbers of pages, frames, leaves and tables, and the windows of addresses.
 ghost use Rattle.std.specs.Prelude.{◌≡◌};
-ghost use Rattle.cow_pages.specs.Address.{page_of, offset_of, is_immune};
+ghost use Rattle.page_tables.specs.Address.{page_of, offset_of, is_immune};
 
 use model_numbers::{
     IMAGE_BASE, IMAGE_LENGTH, LARGE_BASE, LARGE_SLOT_BYTES, LARGE_SLOT_COUNT, PAGE_BYTES,
@@ -26,13 +26,13 @@ pub(crate) const LARGE_PAGE_END: u32 = LARGE_PAGE
     + LARGE_SLOT_COUNT * LARGE_SLOT_BYTES / PAGE_BYTES;
 
 /// How many pages a leaf has.
-pub(crate) const LEAF_PAGES: usize = 1024;
+pub const LEAF_PAGES: usize = 1024;
 
 /// How many leaves a table has at most: one for each 1,024 pages of all addresses.
-pub(crate) const TABLE_LEAVES: usize = 1024;
+pub const TABLE_LEAVES: usize = 1024;
 
 /// How many pages all addresses have.
-pub(crate) const ALL_PAGES: u32 = 0x10_0000;
+pub const ALL_PAGES: u32 = 0x10_0000;
 
 /// The address of a byte.
 #[derive(Clone, Copy, PartialEq, Eq, Debug)]
@@ -84,7 +84,7 @@ impl Addr {
 
     /// Whether reads at the address are counted: it lies in the image or zygote window.
     #[inline]
-    pub(crate) fn is_immune(self) -> bool
+    pub fn is_immune(self) -> bool
         ensures { result ≡ is_immune self.0 }
     {
         let page = self.0 / PAGE_BYTES;
