@@ -68,3 +68,13 @@ def instructions(words):
     tool = ["valgrind", "--tool=callgrind", "--callgrind-out-file=/dev/null"]
     done = subprocess.run(tool + words, capture_output=True, text=True, check=True)
     return int(done.stderr.split("Collected : ")[1].split()[0])
+
+
+def memory(words):
+    """The most memory of a run, in KiB."""
+    run = subprocess.Popen(words, stdout=subprocess.DEVNULL)
+    _, status, used = os.wait4(run.pid, 0)
+    run.returncode = os.waitstatus_to_exitcode(status)
+    if run.returncode != 0:
+        raise SystemExit(f"{words}: status {run.returncode}")
+    return used.ru_maxrss

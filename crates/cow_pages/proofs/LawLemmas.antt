@@ -5,13 +5,13 @@ use Rattle.std.proofs.lemmas.Option.{none-some}
 use Rattle.std.proofs.lemmas.Nat.{le_bytes_2, le_bytes_4, le_bytes_8}
 use Rattle.std.proofs.lemmas.List.{get_or_past}
 use Rattle.std.proofs.lemmas.Bool.{cases_eq, cases_lt, eq-eqb, ne_eqb, cond-true, cond-false, le-leb, lt-leb, le-ltb, lt-ltb, leb-true, and_from}
-use Rattle.cow_pages.specs.declared.address.Window.{Window}
-use Rattle.cow_pages.specs.Address.{page_of, offset_of, is_in, first_page, page_count}
-use Rattle.cow_pages.specs.Memory.{Memory, Page, Table, page_in, page_at, table_of, is_mapped, flag_of, RisesFrom, IsSound, frame_at, HasOneSharer, IsFree}
+use Rattle.page_tables.specs.declared.address.Window.{Window}
+use Rattle.page_tables.specs.Address.{page_of, offset_of, is_in, first_page, page_count, leaf_index}
+use Rattle.cow_pages.specs.Memory.{Memory, Page, Table, page_in, page_at, table_of, is_mapped, flag_of, RisesFrom, IsSound, frame_at, is_written, leaf_in, leaf_at, HasOneSharer, IsFree}
 use Rattle.cow_pages.specs.Change.{ChangesPage, ChangesTable}
 use Rattle.cow_pages.specs.View.{View, view_of, byte_at, byte_in, numbers_from, bytes_at, u16_at, u32_at, u64_at}
-use Rattle.cow_pages.specs.Laws.{IsPaged, HasNumbers, CountsPages, pages_in}
-use Rattle.cow_pages.proofs.SoundLemmas.{count-step}
+use Rattle.cow_pages.specs.Laws.{IsPaged, HasNumbers, CountsPages, ShareLeaves, pages_in}
+use Rattle.cow_pages.proofs.HolderLemmas.{count-step}
 
 -- bytes of a page
 
@@ -196,3 +196,47 @@ free_at_end old new t p f rest none one is u q found = by_table (cases_eq u t)
     by_table (inr apart) =
         let had : frame_at old u q ≡ Some f = sym (ap (option_map (λ (page : Page). page.frame)) (rest.others u q apart)) ∙ found in
         apart (one u q (had ∙ sym is)).0
+
+-- LEAVES
+
+pub leaf-mapped : (m : Memory) (t p : ℕ) → is_mapped m t p ≡ true → leaf_at m t p ≡ leaf_in m t (leaf_index p)
+leaf-mapped m t p is = cond-true (is_mapped m t p) (leaf_in m t (leaf_index p)) None is
+
+-- a leaf of a page is that of its index, and the page is mapped
+pub leaf-is : (m : Memory) (t p l : ℕ) → leaf_at m t p ≡ Some l → (is_mapped m t p ≡ true) × (leaf_in m t (leaf_index p) ≡ Some l)
+leaf-is m t p l is = by (is_mapped m t p) refl
+  where
+    by : (b : Bool) → is_mapped m t p ≡ b → (is_mapped m t p ≡ true) × (leaf_in m t (leaf_index p) ≡ Some l)
+    by true at = (at, sym (leaf-mapped m t p at) ∙ is)
+    by false at = absurd (none-some l (sym (cond-false (is_mapped m t p) (leaf_in m t (leaf_index p)) None at) ∙ is))
+
+pub shares_leaves : (m : Memory) → IsSound m → ShareLeaves m
+shares_leaves m sound = record {
+  there = λ t p. there t p (is_mapped m t p) refl;
+  together = λ t p q one other. (
+    λ same.
+        let l = some_leaf (leaf_in m t (leaf_index p)) (sound.leaf_there t p one) in
+        (sound.same_leaf t (leaf_index p) t (leaf_index q) l.0 l.1 (sym (leaf-mapped m t q other) ∙ sym same ∙ leaf-mapped m t p one ∙ l.1)).0,
+    λ same. leaf-mapped m t p one ∙ ap (leaf_in m t) same ∙ sym (leaf-mapped m t q other),
+  );
+  unwritten = λ t u p l apart one other.
+      let a = leaf-is m t p l one in
+      let b = leaf-is m u p l other in
+      let same = (sound.same_leaf t (leaf_index p) u (leaf_index p) l a.1 b.1).1 p refl in
+      by_flag t u p apart same (is_written m t p) refl;
+  filled = λ t i l is.
+      let f = sound.leaf_filled t i l is in
+      (f.0, leaf-mapped m t f.0 f.2 ∙ ap (leaf_in m t) f.1 ∙ is);
+}
+  where
+    some_leaf : (o : Option ℕ) → IsTrue (is_some o) → (l : ℕ) × (o ≡ Some l)
+    some_leaf None is = absurd (true≢false (sym is))
+    some_leaf (Some l) is = (l, refl)
+
+    there : (t p : ℕ) (b : Bool) → is_mapped m t p ≡ b → is_some (leaf_at m t p) ≡ is_mapped m t p
+    there t p true at = ap (λ (o : Option ℕ). is_some o) (leaf-mapped m t p at) ∙ sound.leaf_there t p at ∙ sym at
+    there t p false at = ap (λ (o : Option ℕ). is_some o) (cond-false (is_mapped m t p) (leaf_in m t (leaf_index p)) None at) ∙ sym at
+
+    by_flag : (t u p : ℕ) → t ≢ u → page_at m t p ≡ page_at m u p → (b : Bool) → is_written m t p ≡ b → is_written m t p ≡ false
+    by_flag t u p apart same false at = at
+    by_flag t u p apart same true at = absurd (apart (sym (sound.written_alone t p at u p (ap (option_map (λ (page : Page). page.frame)) (sym same))).0))

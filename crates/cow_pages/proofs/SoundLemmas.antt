@@ -1,287 +1,223 @@
--- What holds of the memory that a `Store` shows.
-use Rattle.std.proofs.Common.{◌≡◌, ◌≢◌, ℕ, zero, suc, ◌+◌, ◌-◌, ◌<◌, ◌≤◌, Bool, true, cond, List, [], ◌∷◌, ◌++◌, map, length, get_or, Some, None, Option, is_some, IsTrue, count_by, refl, sym, ap, subst, ◌∙◌, inl, inr, arith, eqb, ltb, leb, ◌&&◌, ◌||◌, slice_get, add-zero, zero-add, true≢false}
-use Rattle.std.specs.Prelude.{option_map, All}
-use Rattle.std.proofs.lemmas.List.{get_or_past}
-use Rattle.std.proofs.lemmas.List.Sums.{sum_by-append}
-use Rattle.std.proofs.lemmas.Bool.{cases_eq, cases_lt, eq-eqb, ne_eqb, cond-true, cond-false, le-leb, lt-ltb, or_left, or_right, and_from}
-use Rattle.std.specs.List.{list_any}
+-- What holds of the memory that a store shows.
+use Rattle.std.proofs.Common.{◌≡◌, ◌≢◌, ℕ, zero, suc, ◌+◌, ◌<◌, ◌≤◌, ◌*◌, ◌/◌, ◌%◌, Bool, true, false, cond, List, [], ◌∷◌, length, get_or, Some, None, Option, count_by, is_some, IsTrue, refl, sym, ap, subst, ◌∙◌, inl, inr, arith, eqb, zero-add, add-zero, true≢false}
+use Rattle.std.specs.Prelude.{◌-◌, option_map, min, All}
+use Rattle.std.proofs.lemmas.List.{length-map}
+use Rattle.std.proofs.lemmas.Bool.{cases_eq, cases_lt, eq-eqb, ne_eqb, cond-true, cond-false}
+use Rattle.std.proofs.lemmas.Nat.{div-mul-add, mod_below}
 use Rattle.std.proofs.lemmas.Option.{none-some, same_Some}
-use Rattle.cow_pages.specs.declared.frame.Frame.{Frame}
-use Rattle.cow_pages.specs.declared.table.Entry.{Entry}
-use Rattle.cow_pages.specs.declared.table.Table.{Table}
+use Rattle.page_tables.specs.Address.{is_in_window}
+use Rattle.cow_pages.specs.Memory.{Memory, Page, Table, page_at, frame_at, frames_of, is_mapped, is_written, flag_of, HasOneSharer, RisesFrom, IsSound, used_frames, used_leaves, distinct_count, row_leaves, leaves_of}
+use Rattle.page_tables.specs.declared.leaf.Entry.{Entry}
 use Rattle.cow_pages.specs.declared.store.Store.{Store}
-use Rattle.cow_pages.specs.Memory.{Page, page_at, frame_at, frames_of, RisesFrom, IsSound, is_mapped, is_written, flag_of, HasOneSharer, used_frames, distinct_count}
-use Rattle.cow_pages.specs.Place.{place_count, page_number}
-use Rattle.cow_pages.specs.Pool.{bytes_of, sharers_of, holders}
-use Rattle.cow_pages.specs.Tables.{entries_of, entry_at, frames_in, all_frames}
-use Rattle.cow_pages.specs.Store.{pages_from, page_of_entry, shown_table, shown, IsKept}
-use Rattle.cow_pages.proofs.PlaceLemmas.{number_is}
-use Rattle.cow_pages.specs.Address.{is_in, is_in_window}
-use Rattle.cow_pages.specs.declared.address.Window.{Window}
-use Rattle.cow_pages.specs.declared.address.Window.TheVariants.{Image, Zygote, Regions, Large}
 use Rattle.cow_pages.specs.View.{numbers_from}
-use Rattle.cow_pages.proofs.ShownLemmas.{page_at-shown, RisesFrom-pages_from, Stands, stands, table_of-shown}
+use Rattle.page_tables.specs.Grid.{cell, held, all_held}
+use Rattle.cow_pages.specs.Store.{Row, place_at, entry_in, entry_at, leaf_grid, table_grid, leaf_key, frame_sharers, leaf_sharers, pages_kept, bytes_of, page_of_entry, shown, flat, HasRoom, CountsSlots, IsKept, IsStore}
+use Rattle.cow_pages.proofs.HolderLemmas.{holders, count-step, holders-yes, holders-no, holders-append, distinct_and_absent, all_below, entry_with, holders-entries}
+use Rattle.cow_pages.proofs.CountLemmas.{count-within}
+use Rattle.page_tables.proofs.GridLemmas.{one-yes, one-no, cell-column}
+use Rattle.page_tables.proofs.LeafLemmas.{present-found}
+use Rattle.page_tables.specs.declared.leaf.Leaf.{Leaf}
+use Rattle.cow_pages.proofs.SharedLemmas.{leaf_held, leaf_within, leaf_length, frame_held, frame_used, stands, entry_put}
+use Rattle.cow_pages.proofs.ShownLemmas.{page_at-shown, frame-shown, framed, table_of-shown, RisesFrom-pages, one_sharer}
 
--- one step of a count
-pub count-step : {X : Type 0} (p : X → Bool) (x : X) (xs : List X) → count_by p (x ∷ xs) ≡ cond (p x) 1 0 + count_by p xs
-count-step p x xs = sum_by-append _ (x ∷ []) xs ∙ ap (λ n. n + count_by p xs) (zero-add (cond (p x) 1 0))
+-- the page that is shown, and its entry
+pub record Behind (s : Store) (t p : ℕ) (page : Page) : Type 0 where
+  pub entry : Entry
+  pub is : entry_at s t p ≡ Some entry
+  pub shows : page_of_entry s entry ≡ page
 
-pub holders-yes : (xs : List ℕ) (x f : ℕ) → x ≡ f → holders (x ∷ xs) f ≡ 1 + holders xs f
-holders-yes xs x f same = count-step (λ y. eqb y f) x xs ∙ ap (λ n. n + holders xs f) (cond-true {A = ℕ} (eqb x f) 1 0 (eq-eqb x f same))
-
-pub holders-no : (xs : List ℕ) (x f : ℕ) → x ≢ f → holders (x ∷ xs) f ≡ holders xs f
-holders-no xs x f apart = count-step (λ y. eqb y f) x xs ∙ ap (λ n. n + holders xs f) (cond-false {A = ℕ} (eqb x f) 1 0 (ne_eqb x f apart)) ∙ zero-add (holders xs f)
-
-pub holders-append : (xs ys : List ℕ) (f : ℕ) → holders (xs ++ ys) f ≡ holders xs f + holders ys f
-holders-append xs ys f = sum_by-append _ xs ys
-
--- an entry is one of its frame's holders
-pub holders-entry : (es : List (Option Entry)) (n : ℕ) (e : Entry) → get_or es n None ≡ Some e → 1 ≤ holders (frames_in es) e.frame
-holders-entry [] n e is = absurd (none-some _ is)
-holders-entry (None ∷ rest) zero e is = absurd (none-some _ is)
-holders-entry (None ∷ rest) (suc n) e is = holders-entry rest n e is
-holders-entry (Some d ∷ rest) zero e is =
-    omega (arith, holders-yes (frames_in rest) d.frame e.frame (ap (λ (it : Entry). it.frame) (same_Some d e is)))
-holders-entry (Some d ∷ rest) (suc n) e is =
-    omega (arith, holders-entry rest n e is, count-step (λ y. eqb y e.frame) d.frame (frames_in rest))
-
-pub holders-table : (tables : List (Option Table)) (t n : ℕ) (e : Entry) → entry_at tables t n ≡ Some e → 1 ≤ holders (all_frames tables) e.frame
-holders-table [] t n e is = absurd (none-some _ is)
-holders-table (table ∷ rest) zero n e is =
-    omega (arith, holders-entry (entries_of table) n e is, holders-append (frames_in (entries_of table)) (all_frames rest) e.frame)
-holders-table (table ∷ rest) (suc t) n e is =
-    omega (arith, holders-table rest t n e is, holders-append (frames_in (entries_of table)) (all_frames rest) e.frame)
-
--- two tables with the frame are two holders
-pub holders-two : (tables : List (Option Table)) (t u n m : ℕ) (e d : Entry) → t ≢ u → entry_at tables t n ≡ Some e → entry_at tables u m ≡ Some d → d.frame ≡ e.frame → 2 ≤ holders (all_frames tables) e.frame
-holders-two [] t u n m e d apart is also same = absurd (none-some _ is)
-holders-two (table ∷ rest) zero zero n m e d apart is also same = absurd (apart refl)
-holders-two (table ∷ rest) zero (suc u) n m e d apart is also same =
-    let other = subst (λ f. 1 ≤ holders (all_frames rest) f) same (holders-table rest u m d also) in
-    omega (arith, other, holders-entry (entries_of table) n e is, holders-append (frames_in (entries_of table)) (all_frames rest) e.frame)
-holders-two (table ∷ rest) (suc t) zero n m e d apart is also same =
-    let other = subst (λ f. 1 ≤ holders (frames_in (entries_of table)) f) same (holders-entry (entries_of table) m d also) in
-    omega (arith, other, holders-table rest t n e is, holders-append (frames_in (entries_of table)) (all_frames rest) e.frame)
-holders-two (table ∷ rest) (suc t) (suc u) n m e d apart is also same =
-    omega (arith, holders-two rest t u n m e d (λ equal. apart (ap suc equal)) is also same, holders-append (frames_in (entries_of table)) (all_frames rest) e.frame)
-
--- the frames of the pages are those of the entries
-pub frames_of-pages_from : (frames : List Frame) (es : List (Option Entry)) (k : ℕ) → map (λ (it : ℕ × Page). it.1.frame) (pages_from frames k es) ≡ frames_in es
-frames_of-pages_from frames [] k = refl
-frames_of-pages_from frames (None ∷ rest) k = frames_of-pages_from frames rest (k + 1)
-frames_of-pages_from frames (Some e ∷ rest) k = ap (λ (fs : List ℕ). e.frame ∷ fs) (frames_of-pages_from frames rest (k + 1))
-
-pub frames_of-shown : (frames : List Frame) (tables : List (Option Table)) → frames_of (map (shown_table frames) tables) ≡ all_frames tables
-frames_of-shown frames [] = refl
-frames_of-shown frames (None ∷ rest) = frames_of-shown frames rest
-frames_of-shown frames (Some table ∷ rest) = rw (frames_of-pages_from frames table.entries.items 0, frames_of-shown frames rest) refl
-
--- the page that has a frame
-pub record Framed (s : Store) (t p f : ℕ) : Type 0 where
-  pub page : Page
-  pub is : page_at (shown s) t p ≡ Some page
-  pub frame : page.frame ≡ f
-  pub stands : Stands s t p page
-  pub entry : stands.entry.frame ≡ f
-
-pub framed : (s : Store) (t p f : ℕ) → frame_at (shown s) t p ≡ Some f → Framed s t p f
-framed s t p f is = by_page (page_at (shown s) t p) refl is
+pub behind : (s : Store) → IsKept s → (t p : ℕ) (page : Page) → page_at (shown s) t p ≡ Some page → Behind s t p page
+behind s kept t p page is = by_entry (entry_at s t p) refl (sym (page_at-shown s kept t p) ∙ is)
   where
-    by_page : (o : Option Page) → page_at (shown s) t p ≡ o → option_map (λ (page : Page). page.frame) o ≡ Some f → Framed s t p f
-    by_page None at is = absurd (none-some _ is)
-    by_page (Some page) at is =
-        let st = stands s t p page at in
-        let same = same_Some _ _ is in
-        record { page = page; is = at; frame = same; stands = st; entry = ap (λ (it : Page). it.frame) st.shows ∙ same }
+    by_entry : (o : Option Entry) → entry_at s t p ≡ o → option_map (page_of_entry s) o ≡ Some page → Behind s t p page
+    by_entry None at is = absurd (none-some page is)
+    by_entry (Some e) at is = record { entry = e; is = at; shows = same_Some (page_of_entry s e) page is }
 
-pub same_page : (s : Store) → IsKept s → (t p u q f : ℕ) → frame_at (shown s) t p ≡ Some f → frame_at (shown s) u q ≡ Some f → p ≡ q
-same_page s kept t p u q f one other =
-    let a = framed s t p f one in
-    let b = framed s u q f other in
-    sym a.stands.number ∙ ap page_number (kept.same_place t a.stands.place u b.stands.place _ _ a.stands.found b.stands.found (a.entry ∙ sym b.entry)) ∙ b.stands.number
+-- a frame with sharers is one of the frames
+pub frame_within : (s : Store) (f : ℕ) → HasRoom s → 1 ≤ frame_sharers s f → f < length s.frames.items
+frame_within s f room some = omega (arith, count-within s.frame_counts f (omega (arith, some)), room.frames)
 
-pub same_bytes : (s : Store) (t u p : ℕ) (one other : Page) → page_at (shown s) t p ≡ Some one → page_at (shown s) u p ≡ Some other → one.frame ≡ other.frame → one.bytes ≡ other.bytes
-same_bytes s t u p one other is also same =
-    let a = stands s t p one is in
-    let b = stands s u p other also in
-    let frames : a.entry.frame ≡ b.entry.frame = ap (λ (it : Page). it.frame) a.shows ∙ same ∙ sym (ap (λ (it : Page). it.frame) b.shows) in
-    sym (ap (λ (it : Page). it.bytes) a.shows) ∙ ap (bytes_of s.pool.frames.items) frames ∙ ap (λ (it : Page). it.bytes) b.shows
+pub entry_within : (s : Store) → IsKept s → HasRoom s → (t p : ℕ) (e : Entry) → entry_at s t p ≡ Some e → e.frame < length s.frames.items
+entry_within s kept room t p e is = frame_within s e.frame room (frame_held s kept.counts t p e is)
 
--- a frame with one sharer has one entry
-pub one_sharer : (s : Store) → IsKept s → (t p place : ℕ) (e : Entry) → entry_at s.tables.items t place ≡ Some e → page_number place ≡ p → sharers_of s.pool.frames.items e.frame ≡ 1 → HasOneSharer (shown s) t p
-one_sharer s kept t p place e found number alone u q same =
-    let here : frame_at (shown s) t p ≡ Some e.frame =
-    subst (λ n. frame_at (shown s) t n ≡ Some e.frame) number
-    (ap (option_map (λ (page : Page). page.frame)) (page_at-shown s t place ∙ ap (option_map (page_of_entry s.pool.frames.items)) found)) in
-    let there = framed s u q e.frame (same ∙ here) in
-    let q_is : q ≡ p = same_page s kept u q t p e.frame (same ∙ here) here in
-    elim (cases_eq t u) [
-      | inl equal ↦ (sym equal, q_is)
-      | inr apart ↦ absurd (omega (arith, alone, kept.shared e.frame (kept.in_range t place e found), holders-two s.tables.items t u place there.stands.place e there.stands.entry apart found there.stands.found there.entry))
-    ]
+-- a leaf in a place is one of the leaves
+pub leaf_there : (s : Store) → IsKept s → (t i l : ℕ) → place_at s t i ≡ Some l → l < length s.leaves.items
+leaf_there s kept t i l is = omega (arith, leaf_within s l (leaf_held s kept.counts t i l is), kept.whole.count, length-map s.leaves.items (λ (it : Leaf). it.entries))
 
--- the flag's page
-pub written_page_of : (o : Option Page) → IsTrue (flag_of o) → (page : Page) × ((o ≡ Some page) × IsTrue page.written)
-written_page_of None is = absurd (true≢false (sym is))
-written_page_of (Some page) is = (page, (refl, is))
+pub rises : (s : Store) (t : ℕ) → RisesFrom 0 (Rattle.cow_pages.specs.Memory.table_of (shown s) t)
+rises s t = subst (RisesFrom 0) (sym (table_of-shown s s.tables.items t)) (RisesFrom-pages s (flat s (get_or (table_grid s) t [])) 0 0 (omega arith))
 
-pub written_alone : (s : Store) → IsKept s → (t p : ℕ) → IsTrue (is_written (shown s) t p) → HasOneSharer (shown s) t p
-written_alone s kept t p is =
-    let w = written_page_of _ is in
-    let st = stands s t p w.0 w.1.0 in
-    one_sharer s kept t p st.place st.entry st.found st.number
-    (kept.alone t st.place st.entry st.found (subst (λ (b : Bool). IsTrue b) (sym (ap (λ (it : Page). it.written) st.shows)) w.1.1))
-
-pub in_range : (low high n : ℕ) → low ≤ n → n < high → (leb low n && ltb n high) ≡ true
-in_range low high n above below = and_from _ _ (le-leb low n above) (lt-ltb n high below)
-
-pub in_one : (w : Window) (n : ℕ) → is_in w n ≡ true → IsTrue (is_in_window n)
-in_one Image n is = or_left (is_in Image n || is_in Zygote n || is_in Regions n) (is_in Large n) (or_left (is_in Image n || is_in Zygote n) (is_in Regions n) (or_left (is_in Image n) (is_in Zygote n) is))
-in_one Zygote n is = or_left (is_in Image n || is_in Zygote n || is_in Regions n) (is_in Large n) (or_left (is_in Image n || is_in Zygote n) (is_in Regions n) (or_right (is_in Image n) (is_in Zygote n) is))
-in_one Regions n is = or_left (is_in Image n || is_in Zygote n || is_in Regions n) (is_in Large n) (or_right (is_in Image n || is_in Zygote n) (is_in Regions n) is)
-in_one Large n is = or_right (is_in Image n || is_in Zygote n || is_in Regions n) (is_in Large n) is
-
--- a place's page is one of a window's
-pub number_in_window : (k : ℕ) → k < place_count → IsTrue (is_in_window (page_number k))
-number_in_window k below =
-    number_is k (λ n. IsTrue (is_in_window n))
-    (λ a. in_one Image (0x20000 + k) (in_range 0x20000 0x24000 (0x20000 + k) (omega arith) (omega arith)))
-    (λ a b. in_one Zygote (0x30000 + (k - 16384)) (in_range 0x30000 0x40000 (0x30000 + (k - 16384)) (omega arith) (omega arith)))
-    (λ a b. in_one Regions (0x40000 + (k - 81920)) (in_range 0x40000 0x50000 (0x40000 + (k - 81920)) (omega arith) (omega arith)))
-    (λ a. in_one Large (0x80000 + (k - 147456)) (in_range 0x80000 0xa0000 (0x80000 + (k - 147456)) (omega arith) (omega arith)))
-
--- an entry that is found stands among the entries
-pub entry_within : (es : List (Option Entry)) (n : ℕ) (e : Entry) → get_or es n None ≡ Some e → n < length es
-entry_within es n e is =
-    elim (cases_lt n (length es)) [
-      | inl below ↦ below
-      | inr past ↦ absurd (none-some e (sym (get_or_past es n None past) ∙ is))
-    ]
-
-pub place_within : (tables : List (Option Table)) (t place : ℕ) (e : Entry)
-    → ((u : ℕ) (table : Table) → slice_get tables u ≡ Some (Some table) → length table.entries.items ≡ place_count)
-    → entry_at tables t place ≡ Some e → place < place_count
-place_within [] t place e all found = absurd (none-some _ found)
-place_within (None ∷ rest) zero place e all found = absurd (none-some _ found)
-place_within (Some table ∷ rest) zero place e all found = omega (arith, entry_within table.entries.items place e found, all 0 table refl)
-place_within (table ∷ rest) (suc t) place e all found = place_within rest t place e (λ u. all (suc u)) found
-
--- an entry has one of the places
-pub place_below : (s : Store) → IsKept s → (t place : ℕ) (e : Entry) → entry_at s.tables.items t place ≡ Some e → place < place_count
-place_below s kept t place e found = place_within s.tables.items t place e (λ u table at. (kept.counted u table at).places) found
-
-pub in_window : (s : Store) → IsKept s → (t p : ℕ) → IsTrue (is_mapped (shown s) t p) → IsTrue (is_in_window p)
-in_window s kept t p is = by_page (page_at (shown s) t p) refl is
-  where
-    by_page : (o : Option Page) → page_at (shown s) t p ≡ o → IsTrue (is_some o) → IsTrue (is_in_window p)
-    by_page None at is = absurd (true≢false (sym is))
-    by_page (Some page) at is =
-        let st = stands s t p page at in
-        subst (λ n. IsTrue (is_in_window n)) st.number (number_in_window st.place (place_below s kept t st.place st.entry st.found))
-
--- how many numbers below n from k on are not in the list
-abbrev pub absent : List ℕ → ℕ → ℕ → ℕ
-absent xs k n = count_by (λ i. eqb (holders xs i) 0) (numbers_from k n)
-
-pub absent-step : (xs : List ℕ) (k n : ℕ) → absent xs k (suc n) ≡ cond (eqb (holders xs k) 0) 1 0 + absent xs (k + 1) n
-absent-step xs k n = count-step (λ i. eqb (holders xs i) 0) k (numbers_from (k + 1) n)
-
--- of no list each number is absent
-pub absent_none : (k n : ℕ) → absent [] k n ≡ n
-absent_none k zero = refl
-absent_none k (suc n) = omega (arith, absent_none (k + 1) n, count-step (λ i. eqb (holders [] i) 0) k (numbers_from (k + 1) n))
-
--- a number below these changes nothing
-pub absent_below : (xs : List ℕ) (x k n : ℕ) → x < k → absent (x ∷ xs) k n ≡ absent xs k n
-absent_below xs x k zero below = refl
-absent_below xs x k (suc n) below =
-    let head : holders (x ∷ xs) k ≡ holders xs k = holders-no xs x k (λ same. omega arith) in
-    absent-step (x ∷ xs) k n
-    ∙ ap (λ h. cond (eqb h 0) 1 0 + absent (x ∷ xs) (k + 1) n) head
-    ∙ ap (λ r. cond (eqb (holders xs k) 0) 1 0 + r) (absent_below xs x (k + 1) n (omega arith))
-    ∙ sym (absent-step xs k n)
-
--- a number that joins takes one from the absent, if it was
-pub absent_at : (xs : List ℕ) (x k n : ℕ) → k ≤ x → x < k + n → absent (x ∷ xs) k n + cond (eqb (holders xs x) 0) 1 0 ≡ absent xs k n
-absent_at xs x k zero above below = absurd (omega arith)
-absent_at xs x k (suc n) above below =
-    elim (cases_eq x k) [
-      | inl same ↦
-          let some : ◌≡◌ {A = ℕ} (cond (eqb (holders (x ∷ xs) k) 0) 1 0) 0 = cond-false (eqb (holders (x ∷ xs) k) 0) 1 0 (ne_eqb _ _ (λ none. omega (arith, holders-yes xs x k same))) in
-          let at_k = ap {B = ℕ} (λ i. cond (eqb (holders xs i) 0) 1 0) same in
-          omega (arith, some, at_k, absent-step (x ∷ xs) k n, absent-step xs k n, absent_below xs x (k + 1) n (omega arith))
-      | inr other ↦
-          let head = ap {B = ℕ} (λ h. cond (eqb h 0) 1 0) (holders-no xs x k other) in
-          omega (arith, head, absent-step (x ∷ xs) k n, absent-step xs k n, absent_at xs x (k + 1) n (omega arith) (omega arith))
-    ]
-
--- a number is in a list where it has a holder
-pub any_holders : (xs : List ℕ) (x : ℕ) → ◌≡◌ {A = ℕ} (cond (list_any (λ y. eqb y x) xs) 0 1) (cond (eqb (holders xs x) 0) 1 0)
-any_holders [] x = refl
-any_holders (y ∷ ys) x =
-    elim (cases_eq y x) [
-      | inl same ↦
-          cond-true (eqb y x || list_any (λ z. eqb z x) ys) 0 1 (or_left (eqb y x) _ (eq-eqb y x same))
-          ∙ sym (cond-false (eqb (holders (y ∷ ys) x) 0) 1 0 (ne_eqb _ _ (λ none. omega (arith, holders-yes ys y x same))))
-      | inr other ↦
-          ap (λ (b : Bool). cond (b || list_any (λ z. eqb z x) ys) 0 1) (ne_eqb y x other)
-          ∙ any_holders ys x ∙ ap (λ h. cond (eqb h 0) 1 0) (sym (holders-no ys y x other))
-    ]
-
--- each of these is below the bound
-abbrev pub AreBelow : ℕ → List ℕ → Type 0
-AreBelow n [] = Unit {0}
-AreBelow n (x ∷ xs) = (x < n) × AreBelow n xs
-
-pub AreBelow-append : (n : ℕ) (xs ys : List ℕ) → AreBelow n xs → AreBelow n ys → AreBelow n (xs ++ ys)
-AreBelow-append n [] ys p q = q
-AreBelow-append n (x ∷ xs) ys p q = (p.0, AreBelow-append n xs ys p.1 q)
-
--- the different numbers of a list and the absent ones are all
-pub distinct_and_absent : (xs : List ℕ) (n : ℕ) → AreBelow n xs → distinct_count xs + absent xs 0 n ≡ n
-distinct_and_absent [] n below = rw zero-add (absent_none 0 n)
-distinct_and_absent (x ∷ xs) n below =
-    omega (arith, distinct_and_absent xs n below.1, absent_at xs x 0 n (omega arith) (omega (arith, below.0)), any_holders xs x)
-
--- the entries' frames are in range
-pub AreBelow-frames_in : (es : List (Option Entry)) (n : ℕ) → ((place : ℕ) (e : Entry) → get_or es place None ≡ Some e → e.frame < n) → AreBelow n (frames_in es)
-AreBelow-frames_in [] n all = tt
-AreBelow-frames_in (None ∷ rest) n all = AreBelow-frames_in rest n (λ place. all (suc place))
-AreBelow-frames_in (Some e ∷ rest) n all = (all 0 e refl, AreBelow-frames_in rest n (λ place. all (suc place)))
-
-pub AreBelow-all_frames : (tables : List (Option Table)) (n : ℕ) → ((t place : ℕ) (e : Entry) → entry_at tables t place ≡ Some e → e.frame < n) → AreBelow n (all_frames tables)
-AreBelow-all_frames [] n all = tt
-AreBelow-all_frames (table ∷ rest) n all = AreBelow-append n (frames_in (entries_of table)) (all_frames rest) (AreBelow-frames_in (entries_of table) n (all 0)) (AreBelow-all_frames rest n (λ t. all (suc t)))
+-- where two counts are 0 together, as many of each are
+pub zeros-same : (g h : ℕ → ℕ) (k n : ℕ) → ((i : ℕ) → g i ≡ 0 → h i ≡ 0) → ((i : ℕ) → h i ≡ 0 → g i ≡ 0) → count_by (λ i. eqb (g i) 0) (numbers_from k n) ≡ count_by (λ i. eqb (h i) 0) (numbers_from k n)
+zeros-same g h k zero one other = refl
+zeros-same g h k (suc n) one other =
+    let head : ◌≡◌ {A = ℕ} (cond (eqb (g k) 0) 1 0) (cond (eqb (h k) 0) 1 0) =
+    elim (cases_eq (g k) 0) [
+      | inl none ↦ cond-true (eqb (g k) 0) 1 0 (eq-eqb _ _ none) ∙ sym (cond-true (eqb (h k) 0) 1 0 (eq-eqb _ _ (one k none)))
+      | inr some ↦ cond-false (eqb (g k) 0) 1 0 (ne_eqb _ _ some) ∙ sym (cond-false (eqb (h k) 0) 1 0 (ne_eqb _ _ (λ none. some (other k none))))
+    ] in
+    omega (arith, head, zeros-same g h (k + 1) n one other, count-step (λ i. eqb (g i) 0) k (numbers_from (k + 1) n), count-step (λ i. eqb (h i) 0) k (numbers_from (k + 1) n))
 
 pub later : (k i : ℕ) → k + suc i ≡ k + 1 + i
 later k i = omega arith
 
--- the frames without sharers are the numbers without holders
-pub free_frames : (frames : List Frame) (k : ℕ) (g : ℕ → ℕ) → ((i : ℕ) → i < length frames → sharers_of frames i ≡ g (k + i)) → count_by (λ i. eqb (g i) 0) (numbers_from k (length frames)) ≡ count_by (λ (it : Frame). eqb it.sharers 0) frames
-free_frames [] k g same = refl
-free_frames (f ∷ rest) k g same =
-    let head : f.sharers ≡ g k = same 0 (omega arith) ∙ ap g (add-zero k) in
-    let tail = free_frames rest (k + 1) g (λ i below. same (suc i) (omega arith) ∙ ap g (later k i)) in
+pub free_counts : (counts : List ℕ) (k : ℕ) (g : ℕ → ℕ) → ((i : ℕ) → i < length counts → get_or counts i 0 ≡ g (k + i)) → count_by (λ i. eqb (g i) 0) (numbers_from k (length counts)) ≡ count_by (λ c. eqb c 0) counts
+free_counts [] k g same = refl
+free_counts (c ∷ rest) k g same =
+    let head : c ≡ g k = same 0 (omega arith) ∙ ap g (add-zero k) in
+    let tail = free_counts rest (k + 1) g (λ i below. same (suc i) (omega arith) ∙ ap g (later k i)) in
     count-step (λ i. eqb (g i) 0) k (numbers_from (k + 1) (length rest))
     ∙ ap (λ h. cond (eqb h 0) 1 0 + count_by (λ i. eqb (g i) 0) (numbers_from (k + 1) (length rest))) (sym head)
-    ∙ ap (λ r. cond (eqb f.sharers 0) 1 0 + r) tail
-    ∙ sym (count-step (λ (it : Frame). eqb it.sharers 0) f rest)
+    ∙ ap (λ r. cond (eqb c 0) 1 0 + r) tail
+    ∙ sym (count-step (λ (it : ℕ). eqb it 0) c rest)
 
-pub counted : (s : Store) → IsKept s → used_frames (shown s) + s.pool.spare ≡ length s.pool.frames.items
-counted s kept =
-    let all = distinct_and_absent (all_frames s.tables.items) (length s.pool.frames.items) (AreBelow-all_frames s.tables.items _ kept.in_range) in
-    let free = free_frames s.pool.frames.items 0 (holders (all_frames s.tables.items)) (λ i below. kept.shared i below ∙ ap (holders (all_frames s.tables.items)) (sym (zero-add i))) in
-    rw (frames_of-shown s.pool.frames.items s.tables.items) (omega (arith, all, free, kept.pool.linked.counted))
+-- a frame is in some table's pages exactly where it has a sharer
+pub shown_held : (s : Store) → IsKept s → (f : ℕ) → 1 ≤ holders (frames_of (shown s).tables) f → 1 ≤ frame_sharers s f
+shown_held s kept f some =
+    let e = entry_with (shown s).tables f (rises s) some in
+    let at = framed s kept e.table e.page.number f e.page.is in
+    omega (arith, frame_held s kept.counts e.table e.page.number at.0 at.1.0, ap (frame_sharers s) at.1.1)
 
-pub sound : (s : Store) → IsKept s → IsSound (shown s)
-sound s kept = record {
-  rising = λ t. subst (RisesFrom 0) (sym (table_of-shown s.pool.frames.items s.tables.items t)) (RisesFrom-pages_from s.pool.frames.items (entries_of (get_or s.tables.items t None)) 0 0 (omega arith));
-  in_range = λ t p f is. let a = framed s t p f is in subst (λ n. n < length s.pool.frames.items) a.entry (kept.in_range t a.stands.place a.stands.entry a.stands.found);
-  in_window = in_window s kept;
-  whole = λ t p page is. let st = stands s t p page is in ap (λ (it : Page). length it.bytes) (sym st.shows) ∙ kept.pool.frames.whole st.entry.frame (kept.in_range t st.place st.entry st.found);
-  bytes = λ t p page is. let st = stands s t p page is in subst (λ (it : Page). All (λ b. b < 256) it.bytes) st.shows (kept.pool.frames.bytes st.entry.frame (kept.in_range t st.place st.entry st.found));
-  same_page = same_page s kept;
-  same_bytes = same_bytes s;
-  written_alone = written_alone s kept;
-  counted = counted s kept;
-}
+pub held_shown : (s : Store) → IsKept s → (f : ℕ) → 1 ≤ frame_sharers s f → 1 ≤ holders (frames_of (shown s).tables) f
+held_shown s kept f some =
+    let u = frame_used s kept f some in
+    holders-entries (shown s).tables u.table u.page f (frame-shown s kept u.table u.page ∙ ap (option_map (λ (it : Entry). it.frame)) u.is ∙ ap {A = ℕ} Some u.same)
+
+-- the frames that are used and those that are free are all
+pub counted : (s : Store) → IsKept s → HasRoom s → used_frames (shown s) + s.frame_counts.spare ≡ length s.frames.items
+counted s kept room =
+    let all = frames_of (shown s).tables in
+    let n = length s.frame_counts.counts in
+    let total = distinct_and_absent all n (all_below n all (λ f some. omega (arith, frame_within s f room (shown_held s kept f some), room.frames))) in
+    let free = free_counts s.frame_counts.counts 0 (frame_sharers s) (λ i below. ap (frame_sharers s) (sym (zero-add i))) in
+    let same = zeros-same (holders all) (frame_sharers s) 0 n
+    (λ i none. elim (cases_lt 0 (frame_sharers s i)) [ inl some ↦ absurd (omega (arith, none, held_shown s kept i (omega (arith, some)))) | inr past ↦ omega (arith, past) ])
+    (λ i none. elim (cases_lt 0 (holders all i)) [ inl some ↦ absurd (omega (arith, none, shown_held s kept i (omega (arith, some)))) | inr past ↦ omega (arith, past) ]) in
+    omega (arith, total, same, free, room.frames, room.frames_tallied.spare)
+
+pub holders-row : (row : Row) (l : ℕ) → holders (row_leaves row) l ≡ held leaf_key row l
+holders-row [] l = refl
+holders-row (None ∷ rest) l = holders-append [] (row_leaves rest) l ∙ ap (λ n. 0 + n) (holders-row rest l)
+holders-row (Some k ∷ rest) l =
+    elim (cases_eq k l) [
+      | inl same ↦ omega (arith, holders-yes (row_leaves rest) k l same, holders-row rest l, one-yes k l same, holders-append (k ∷ []) (row_leaves rest) l, holders-yes [] k l same, none l)
+      | inr apart ↦ omega (arith, holders-row rest l, one-no k l apart, holders-append (k ∷ []) (row_leaves rest) l, holders-no [] k l apart, none l)
+    ]
+  where
+    none : (l : ℕ) → holders [] l ≡ 0
+    none l = refl
+
+pub holders-rows : (g : List Row) (l : ℕ) → holders (leaves_of g) l ≡ all_held leaf_key g l
+holders-rows [] l = refl
+holders-rows (row ∷ rest) l = omega (arith, holders-append (row_leaves row) (leaves_of rest) l, holders-row row l, holders-rows rest l)
+
+-- the leaves that are used and those that are free are all
+pub leaves_counted : (s : Store) → IsKept s → HasRoom s → used_leaves (shown s) + s.leaf_counts.spare ≡ length s.leaf_counts.counts
+leaves_counted s kept room =
+    let all = leaves_of (table_grid s) in
+    let n = length s.leaf_counts.counts in
+    let is = λ (l : ℕ). holders-rows (table_grid s) l ∙ sym (kept.counts.leaves l) in
+    let total = distinct_and_absent all n (all_below n all (λ l some. count-within s.leaf_counts l (omega (arith, some, is l)))) in
+    let free = free_counts s.leaf_counts.counts 0 (leaf_sharers s) (λ i below. ap (leaf_sharers s) (sym (zero-add i))) in
+    let same = zeros-same (holders all) (leaf_sharers s) 0 n (λ i none. omega (arith, none, is i)) (λ i none. omega (arith, none, is i)) in
+    omega (arith, total, same, free, room.leaves_tallied.spare)
+
+-- the same of all leaves
+pub leaf_total : (s : Store) → IsKept s → length s.leaves.items ≡ length s.leaf_counts.counts
+leaf_total s kept = omega (arith, kept.whole.count, length-map s.leaves.items (λ (it : Leaf). it.entries))
+
+pub all_leaves : (s : Store) → IsKept s → HasRoom s → used_leaves (shown s) + s.leaf_counts.spare ≡ length s.leaves.items
+all_leaves s kept room = leaves_counted s kept room ∙ sym (leaf_total s kept)
+
+-- an entry of a leaf that has a page
+pub leaf_page : (s : Store) → IsKept s → CountsSlots s → (t i l : ℕ) → place_at s t i ≡ Some l → 0 < pages_kept s l → (a : ℕ) × (e : Entry) × ((a < 1024) × (cell (leaf_grid s) l a ≡ Some e))
+leaf_page s kept slots t i l place some =
+    let f = present-found (get_or (leaf_grid s) l []) (omega (arith, some, slots l)) in
+    let below : f.0 < 1024 = omega (arith, cell-column (leaf_grid s) l f.0 f.1 f.2, leaf_length s kept t i l place) in
+    (f.0, f.1, (below, f.2))
+
+-- LEAVES
+
+-- a leaf that has an entry stands at one index
+pub same_index : (s : Store) → IsKept s → (t i u j l a : ℕ) (e : Entry) → place_at s t i ≡ Some l → place_at s u j ≡ Some l → a < 1024 → cell (leaf_grid s) l a ≡ Some e → i ≡ j
+same_index s kept t i u j l a e one other below is =
+    let page = kept.pages.same_page t (i * 1024 + a) u (j * 1024 + a) e e (entry_put s t i a l e below one is) (entry_put s u j a l e below other is) refl in
+    sym (div-mul-add i 1024 a below) ∙ ap (λ n. n / 1024) page ∙ div-mul-add j 1024 a below
+
+-- two mapped pages of a table have the same leaf exactly where their indexes are equal
+pub leaf_by_index : (s : Store) → IsKept s → (t p q : ℕ) (e d : Entry) → entry_at s t p ≡ Some e → entry_at s t q ≡ Some d → place_at s t (p / 1024) ≡ place_at s t (q / 1024) → p / 1024 ≡ q / 1024
+leaf_by_index s kept t p q e d is also same =
+    let a = stands s t p e is in
+    same_index s kept t (p / 1024) t (q / 1024) a.leaf (p % 1024) e a.place (sym same ∙ a.place) (mod_below p 1024 (omega arith)) a.slot
+
+-- a leaf that two tables have has no flag
+pub shared_unwritten : (s : Store) → IsKept s → (t u i l a : ℕ) (e : Entry) → t ≢ u → place_at s t i ≡ Some l → place_at s u i ≡ Some l → a < 1024 → cell (leaf_grid s) l a ≡ Some e → e.written ≡ false
+shared_unwritten s kept t u i l a e apart one other below is = by_flag e.written refl
+  where
+    by_flag : (b : Bool) → e.written ≡ b → e.written ≡ false
+    by_flag false at = at
+    by_flag true at = absurd (apart (kept.pages.alone t (i * 1024 + a) u (i * 1024 + a) e e (entry_put s t i a l e below one is) (entry_put s u i a l e below other is) refl at))
+
+-- WHAT HOLDS OF EACH MEMORY
+
+pub sound : (s : Store) → IsStore s → IsSound (shown s)
+sound s store =
+    let kept = store.kept in
+    let room = store.room in
+    record {
+      rising = rises s;
+      in_range = λ t p f is. let a = framed s kept t p f is in subst (λ n. n < length s.frames.items) a.1.1 (entry_within s kept room t p a.0 a.1.0);
+      in_window = λ t p is. by_page t p (page_at (shown s) t p) refl is;
+      whole = λ t p page is. let b = behind s kept t p page is in ap (λ (it : Page). length it.bytes) (sym b.shows) ∙ room.whole b.entry.frame (entry_within s kept room t p b.entry b.is);
+      bytes = λ t p page is. let b = behind s kept t p page is in subst (λ (it : Page). All (λ b. b < 256) it.bytes) b.shows (room.bytes b.entry.frame (entry_within s kept room t p b.entry b.is));
+      same_page = λ t p u q f one other.
+          let a = framed s kept t p f one in
+          let b = framed s kept u q f other in
+          kept.pages.same_page t p u q a.0 b.0 a.1.0 b.1.0 (a.1.1 ∙ sym b.1.1);
+      same_bytes = λ t u p one other is also same.
+          let a = behind s kept t p one is in
+          let b = behind s kept u p other also in
+          sym (ap (λ (it : Page). it.bytes) a.shows) ∙ ap (bytes_of s) (ap (λ (it : Page). it.frame) a.shows ∙ same ∙ sym (ap (λ (it : Page). it.frame) b.shows)) ∙ ap (λ (it : Page). it.bytes) b.shows;
+      written_alone = λ t p is.
+          let w = flagged (page_at (shown s) t p) is in
+          let b = behind s kept t p w.0 w.1.0 in
+          one_sharer s kept t p b.entry b.is
+          (λ u q d at same.
+          (sym (kept.pages.alone t p u q b.entry d b.is at (sym same) (ap (λ (it : Page). it.written) b.shows ∙ w.1.1)), sym (kept.pages.same_page t p u q b.entry d b.is at (sym same))));
+      frames_counted = omega (arith, counted s kept room);
+      leaves_counted = omega (arith, all_leaves s kept room);
+      spare_is =
+          let frames : s.frame_counts.spare ≡ length s.frames.items - used_frames (shown s) = omega (arith, counted s kept room) in
+          let leaves : s.leaf_counts.spare ≡ length s.leaves.items - used_leaves (shown s) = omega (arith, all_leaves s kept room) in
+          ap (λ (n : ℕ). min n s.leaf_counts.spare) frames ∙ ap (λ (n : ℕ). min (length s.frames.items - used_frames (shown s)) n) leaves;
+      reads_fit = room.reads;
+      leaf_there = λ t p is. let e = entry_of t p (page_at (shown s) t p) refl is in ap (λ (o : Option ℕ). is_some o) (stands s t p e.0 e.1).place;
+      leaf_filled = λ t i l place.
+          let f = leaf_page s kept store.slots t i l place (store.filled t i l place) in
+          let at = entry_put s t i f.0 l f.1 f.2.0 place f.2.1 in (
+            i * 1024 + f.0,
+            div-mul-add i 1024 f.0 f.2.0,
+            ap (λ (o : Option Page). is_some o) (page_at-shown s kept t (i * 1024 + f.0) ∙ ap (option_map (page_of_entry s)) at),
+          );
+      same_leaf = λ t i u j l one other.
+          let f = leaf_page s kept store.slots t i l one (store.filled t i l one) in
+          let index = same_index s kept t i u j l f.0 f.1 one other f.2.0 f.2.1 in (
+            index,
+            λ p at.
+                page_at-shown s kept t p
+                ∙ ap (λ (o : Option ℕ). option_map (page_of_entry s) (entry_in s o (p % 1024))) (ap (place_at s t) at ∙ one ∙ sym other ∙ ap (place_at s u) (sym index ∙ sym at))
+                ∙ sym (page_at-shown s kept u p),
+          );
+    }
+  where
+    entry_of : (t p : ℕ) (o : Option Page) → page_at (shown s) t p ≡ o → IsTrue (is_some o) → (e : Entry) × (entry_at s t p ≡ Some e)
+    entry_of t p None at is = absurd (true≢false (sym is))
+    entry_of t p (Some page) at is = let b = behind s store.kept t p page at in (b.entry, b.is)
+
+    by_page : (t p : ℕ) (o : Option Page) → page_at (shown s) t p ≡ o → IsTrue (is_some o) → IsTrue (is_in_window p)
+    by_page t p None at is = absurd (true≢false (sym is))
+    by_page t p (Some page) at is = let b = behind s store.kept t p page at in store.kept.pages.in_window t p b.entry b.is
+
+    flagged : (o : Option Page) → IsTrue (flag_of o) → (page : Page) × ((o ≡ Some page) × (page.written ≡ true))
+    flagged None is = absurd (true≢false (sym is))
+    flagged (Some page) is = (page, (refl, is))

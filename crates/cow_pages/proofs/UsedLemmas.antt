@@ -1,82 +1,12 @@
--- How many frames have an entry.
-use Rattle.std.proofs.Common.{◌≡◌, ℕ, zero, suc, ◌+◌, ◌<◌, ◌≤◌, Bool, false, cond, List, [], ◌∷◌, map, length, get_or, Some, None, Option, refl, sym, ap, subst, ◌∙◌, inl, inr, arith, eqb, ◌||◌, Contains}
-use Rattle.std.specs.Prelude.{option_map, nat_eq}
+-- How many frames and leaves are used.
+use Rattle.std.proofs.Common.{◌≡◌, ℕ, zero, suc, ◌+◌, ◌<◌, ◌≤◌, Bool, false, cond, List, [], ◌∷◌, length, get_or, Option, Some, None, refl, sym, ap, ◌∙◌, inl, inr, arith, eqb, ◌||◌, Contains}
+use Rattle.std.specs.Prelude.{nat_eq}
 use Rattle.std.specs.List.{list_any, IsDistinct, AllByRecursion}
 use Rattle.std.proofs.lemmas.Bool.{cases_eq, cases_lt, eq-eqb, eqb-false, ne_eqb, cond-true, cond-false}
 use Rattle.std.proofs.lemmas.Option.{none-some, same_Some}
-use Rattle.cow_pages.specs.Memory.{Memory, Page, Table, page_in, pages_of, frame_at, frames_of, used_frames, distinct_count, RisesFrom, IsSound}
-use Rattle.cow_pages.specs.Pool.{holders}
-use Rattle.cow_pages.specs.Laws.{AreUsed}
-use Rattle.cow_pages.proofs.SoundLemmas.{count-step, holders-yes, holders-no, holders-append, absent, absent-step, AreBelow, distinct_and_absent}
-use Rattle.cow_pages.proofs.LawLemmas.{page_in-below}
-
-abbrev pub frame_list : Table → List ℕ
-frame_list pages = map (λ (it : ℕ × Page). it.1.frame) pages
-
--- a page's frame is one of the table's
-pub holders-page : (xs : Table) (p : ℕ) (page : Page) → page_in xs p ≡ Some page → 1 ≤ holders (frame_list xs) page.frame
-holders-page [] p page is = absurd (none-some page is)
-holders-page ((q, first) ∷ rest) p page is =
-    elim (cases_eq q p) [
-      | inl same ↦
-          let it = same_Some first page (sym (cond-true (eqb q p) (Some first) (page_in rest p) (eq-eqb q p same)) ∙ is) in
-          omega (arith, holders-yes (frame_list rest) first.frame page.frame (ap (λ (page : Page). page.frame) it))
-      | inr apart ↦
-          let later = holders-page rest p page (sym (cond-false (eqb q p) (Some first) (page_in rest p) (ne_eqb q p apart)) ∙ is) in
-          omega (arith, later, count-step (λ x. eqb x page.frame) first.frame (frame_list rest))
-    ]
-
-pub holders-option : (xs : Table) (p f : ℕ) → option_map (λ (page : Page). page.frame) (page_in xs p) ≡ Some f → 1 ≤ holders (frame_list xs) f
-holders-option xs p f is = by_page (page_in xs p) refl is
-  where
-    by_page : (o : Option Page) → page_in xs p ≡ o → option_map (λ (page : Page). page.frame) o ≡ Some f → 1 ≤ holders (frame_list xs) f
-    by_page None at is = absurd (none-some f is)
-    by_page (Some page) at is = subst (λ n. 1 ≤ holders (frame_list xs) n) (same_Some page.frame f is) (holders-page xs p page at)
-
--- the frame of an entry is one of all
-pub holders-entries : (tables : List (Option Table)) (t p f : ℕ) → option_map (λ (page : Page). page.frame) (page_in (pages_of (get_or tables t None)) p) ≡ Some f → 1 ≤ holders (frames_of tables) f
-holders-entries [] t p f is = absurd (none-some f is)
-holders-entries (table ∷ rest) zero p f is = omega (arith, holders-option (pages_of table) p f is, holders-append (frame_list (pages_of table)) (frames_of rest) f)
-holders-entries (table ∷ rest) (suc t) p f is = omega (arith, holders-entries rest t p f is, holders-append (frame_list (pages_of table)) (frames_of rest) f)
-
--- a page of the table with the frame
-pub record PageWith (xs : Table) (f : ℕ) : Type 0 where
-  pub number : ℕ
-  pub is : option_map (λ (page : Page). page.frame) (page_in xs number) ≡ Some f
-
-pub page_with : (xs : Table) (k f : ℕ) → RisesFrom k xs → 1 ≤ holders (frame_list xs) f → PageWith xs f
-page_with [] k f rises some = absurd (omega (arith, some))
-page_with ((q, first) ∷ rest) k f rises some =
-    elim (cases_eq first.frame f) [
-      | inl same ↦ record {
-        number = q;
-        is = ap (option_map (λ (page : Page). page.frame)) (cond-true (eqb q q) (Some first) (page_in rest q) (eq-eqb q q refl)) ∙ ap Some same;
-      }
-      | inr apart ↦
-          let later = page_with rest (q + 1) f rises.1 (omega (arith, some, holders-no (frame_list rest) first.frame f apart)) in
-          elim (cases_eq q later.number) [
-            | inl equal ↦ absurd (none-some f (sym (ap (option_map (λ (page : Page). page.frame)) (page_in-below rest (q + 1) later.number rises.1 (omega arith))) ∙ later.is))
-            | inr other ↦ record {
-              number = later.number;
-              is = ap (option_map (λ (page : Page). page.frame)) (cond-false (eqb q later.number) (Some first) (page_in rest later.number) (ne_eqb q later.number other)) ∙ later.is;
-            }
-          ]
-    ]
-
--- a table and a page with the frame
-pub record EntryWith (tables : List (Option Table)) (f : ℕ) : Type 0 where
-  pub table : ℕ
-  pub page : PageWith (pages_of (get_or tables table None)) f
-
-pub entry_with : (tables : List (Option Table)) (f : ℕ) → ((t : ℕ) → RisesFrom 0 (pages_of (get_or tables t None))) → 1 ≤ holders (frames_of tables) f → EntryWith tables f
-entry_with [] f rises some = absurd (omega (arith, some))
-entry_with (table ∷ rest) f rises some =
-    elim (cases_lt 0 (holders (frame_list (pages_of table)) f)) [
-      | inl here ↦ record { table = 0; page = page_with (pages_of table) 0 f (rises 0) (omega arith) }
-      | inr none ↦
-          let later = entry_with rest f (λ t. rises (suc t)) (omega (arith, some, none, holders-append (frame_list (pages_of table)) (frames_of rest) f)) in
-          record { table = suc later.table; page = later.page }
-    ]
+use Rattle.cow_pages.specs.Memory.{Memory, frames_of, row_leaves, leaves_of, used_frames, used_leaves, distinct_count, IsSound}
+use Rattle.cow_pages.specs.Laws.{AreUsed, AreUsedLeaves}
+use Rattle.cow_pages.proofs.HolderLemmas.{holders, count-step, holders-yes, holders-no, holders-append, absent, absent-step, distinct_and_absent, all_below, entry_with, holders-entries}
 
 -- lists with the same members have as many different ones
 pub absent-same : (xs ys : List ℕ) (k n : ℕ) → ((f : ℕ) → 1 ≤ holders xs f → 1 ≤ holders ys f) → ((f : ℕ) → 1 ≤ holders ys f → 1 ≤ holders xs f) → absent xs k n ≡ absent ys k n
@@ -99,11 +29,6 @@ absent-same xs ys k (suc n) one other =
       | inl some ↦ absurd (not (omega arith))
       | inr none ↦ omega arith
     ]
-
-pub all_below : (n : ℕ) (xs : List ℕ) → ((f : ℕ) → 1 ≤ holders xs f → f < n) → AreBelow n xs
-all_below n [] all = tt
-all_below n (x ∷ xs) all =
-    (all x (omega (arith, holders-yes xs x x refl)), all_below n xs (λ f some. all f (omega (arith, some, count-step (λ y. eqb y f) x xs))))
 
 -- no number of a list without repeats is one of the later ones
 pub none_later : (x : ℕ) (xs : List ℕ) → AllByRecursion (λ y. eqb x y ≡ false) xs → list_any (λ y. eqb y x) xs ≡ false
@@ -134,19 +59,73 @@ member-holders (x ∷ xs) f some =
           (suc later.0, omega (arith, later.1), later.2)
     ]
 
+-- above each number of a list
+abbrev pub bound_of : List ℕ → ℕ
+bound_of [] = 0
+bound_of (x ∷ xs) = x + 1 + bound_of xs
+
+pub below_bound : (xs : List ℕ) (f : ℕ) → 1 ≤ holders xs f → f < bound_of xs
+below_bound [] f some = absurd (omega (arith, some))
+below_bound (x ∷ xs) f some =
+    elim (cases_eq x f) [
+      | inl same ↦ omega (arith, same)
+      | inr apart ↦ omega (arith, below_bound xs f (omega (arith, some, holders-no xs x f apart)))
+    ]
+
+-- the different numbers of a list are as many as there are in a list of the same members without repeats
+pub members-length : (all xs : List ℕ) → ((f : ℕ) → 1 ≤ holders all f → Contains xs f) → ((f : ℕ) → Contains xs f → 1 ≤ holders all f) → IsDistinct nat_eq xs
+    → distinct_count all ≡ length xs
+members-length all xs one other differ =
+    let n = bound_of all in
+    let there : (f : ℕ) → 1 ≤ holders all f → 1 ≤ holders xs f = λ f some. let c = one f some in holders-member xs c.0 f c.1 c.2 in
+    let back : (f : ℕ) → 1 ≤ holders xs f → 1 ≤ holders all f = λ f some. other f (member-holders xs f some) in
+    let a = distinct_and_absent all n (all_below n all (below_bound all)) in
+    let b = distinct_and_absent xs n (all_below n xs (λ f some. below_bound all f (back f some))) in
+    omega (arith, a, b, absent-same all xs 0 n there back, distinct-length xs differ)
+
 pub used-length : (m : Memory) (fs : List ℕ) → IsSound m → AreUsed m fs → used_frames m ≡ length fs
-used-length m fs sound used =
-    let all = frames_of m.tables in
-    let from : (f : ℕ) → 1 ≤ holders all f → (t : ℕ) × (p : ℕ) × (frame_at m t p ≡ Some f) = λ f some.
-    let e = entry_with m.tables f sound.rising some in (e.table, e.page.number, e.page.is) in
-    let one : (f : ℕ) → 1 ≤ holders all f → 1 ≤ holders fs f = λ f some.
-    let e = from f some in
-    let c = used.all e.0 e.1 f e.2 in
-    holders-member fs c.0 f c.1 c.2 in
-    let other : (f : ℕ) → 1 ≤ holders fs f → 1 ≤ holders all f = λ f some.
-    let e = used.used f (member-holders fs f some) in
-    holders-entries m.tables e.0 e.1 f e.2 in
-    let below : (f : ℕ) → 1 ≤ holders all f → f < m.frames = λ f some. let e = from f some in sound.in_range e.0 e.1 f e.2 in
-    let a = distinct_and_absent all m.frames (all_below m.frames all below) in
-    let b = distinct_and_absent fs m.frames (all_below m.frames fs (λ f some. below f (other f some))) in
-    omega (arith, a, b, absent-same all fs 0 m.frames one other, distinct-length fs used.differ)
+used-length m fs sound used = members-length (frames_of m.tables) fs
+    (λ f some. let e = entry_with m.tables f sound.rising some in used.all e.table e.page.number f e.page.is)
+    (λ f among. let e = used.used f among in holders-entries m.tables e.0 e.1 f e.2)
+    used.differ
+
+-- LEAVES
+
+pub holders-place : (row : List (Option ℕ)) (i l : ℕ) → get_or row i None ≡ Some l → 1 ≤ holders (row_leaves row) l
+holders-place [] i l is = absurd (none-some l is)
+holders-place (None ∷ rest) zero l is = absurd (none-some l is)
+holders-place (Some k ∷ rest) zero l is = omega (arith, holders-yes (row_leaves rest) k l (same_Some k l is))
+holders-place (None ∷ rest) (suc i) l is = holders-place rest i l is
+holders-place (Some k ∷ rest) (suc i) l is = omega (arith, holders-place rest i l is, count-step (λ x. eqb x l) k (row_leaves rest))
+
+-- a leaf of a table is one of all
+pub holders-places : (rows : List (List (Option ℕ))) (t i l : ℕ) → get_or (get_or rows t []) i None ≡ Some l → 1 ≤ holders (leaves_of rows) l
+holders-places [] t i l is = absurd (none-some l is)
+holders-places (row ∷ rest) zero i l is = omega (arith, holders-place row i l is, holders-append (row_leaves row) (leaves_of rest) l)
+holders-places (row ∷ rest) (suc t) i l is = omega (arith, holders-places rest t i l is, holders-append (row_leaves row) (leaves_of rest) l)
+
+pub place_with : (row : List (Option ℕ)) (l : ℕ) → 1 ≤ holders (row_leaves row) l → (i : ℕ) × (get_or row i None ≡ Some l)
+place_with [] l some = absurd (omega (arith, some))
+place_with (None ∷ rest) l some = let later = place_with rest l some in (suc later.0, later.1)
+place_with (Some k ∷ rest) l some =
+    elim (cases_eq k l) [
+      | inl same ↦ (0, ap Some same)
+      | inr apart ↦ let later = place_with rest l (omega (arith, some, holders-no (row_leaves rest) k l apart)) in (suc later.0, later.1)
+    ]
+
+-- a table and an index with the leaf
+pub leaf_with : (rows : List (List (Option ℕ))) (l : ℕ) → 1 ≤ holders (leaves_of rows) l → (t : ℕ) × (i : ℕ) × (get_or (get_or rows t []) i None ≡ Some l)
+leaf_with [] l some = absurd (omega (arith, some))
+leaf_with (row ∷ rest) l some =
+    elim (cases_lt 0 (holders (row_leaves row) l)) [
+      | inl here ↦ let place = place_with row l (omega arith) in (0, place.0, place.1)
+      | inr none ↦
+          let later = leaf_with rest l (omega (arith, some, none, holders-append (row_leaves row) (leaves_of rest) l)) in
+          (suc later.0, later.1, later.2)
+    ]
+
+pub used_leaves-length : (m : Memory) (ls : List ℕ) → AreUsedLeaves m ls → used_leaves m ≡ length ls
+used_leaves-length m ls used = members-length (leaves_of m.leaves) ls
+    (λ l some. let e = leaf_with m.leaves l some in used.all e.0 e.1 l e.2)
+    (λ l among. let e = used.used l among in holders-places m.leaves e.0 e.1 l e.2)
+    used.differ

@@ -2,11 +2,12 @@
 use Rattle.std.proofs.Common.{◌≡◌, ◌≢◌, ◌⊎◌, ℕ, zero, suc, ◌+◌, ◌-◌, ◌<◌, ◌≤◌, List, [], ◌∷◌, map, length, get_or, Some, None, Option, is_some, false, true≢false, refl, sym, ap, subst, ◌∙◌, inl, inr, arith, replicate}
 use Rattle.std.proofs.lemmas.Bool.{cases_eq}
 use Rattle.model_numbers.specs.Numbers.{page_bytes}
-use Rattle.cow_pages.specs.Address.{page_of, offset_of}
+use Rattle.page_tables.specs.Address.{page_of, offset_of}
 use Rattle.cow_pages.specs.Memory.{Memory, Page, Table, page_in, pages_of, page_at, is_live, is_mapped, IsSound}
-use Rattle.cow_pages.specs.Change.{ChangesPage, ChangesTable, MapsZeros, WritesPage, settled, patched}
+use Rattle.page_tables.specs.Frame.{patched}
+use Rattle.cow_pages.specs.Change.{ChangesPage, ChangesTable, MapsZeros, WritesPage, settled}
 use Rattle.cow_pages.specs.View.{View, view_of, byte_at, byte_in, numbers_from, SameView, OthersSeen, AllSeen, MapsPage, UnmapsPage, WritesBytes, IsEmptyView, bytes_at}
-use Rattle.cow_pages.proofs.FrameLemmas.{patched-before, patched-in, patched-after}
+use Rattle.page_tables.proofs.PatchLemmas.{patched-before, patched-in, patched-after}
 
 pub byte-page : (old new : Memory) (t u at : ℕ) → page_at new u (page_of at) ≡ page_at old t (page_of at) → byte_at new u at ≡ byte_at old t at
 unfolding byte_at

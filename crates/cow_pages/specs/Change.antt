@@ -1,8 +1,9 @@
 -- What a call changes, and what stays as it was.
-use Rattle.std.specs.Prelude.{◌≡◌, ◌≢◌, ◌⊎◌, ℕ, ◌+◌, ◌≤◌, min, ◌^◌, ◌-◌, true, false, if◌then◌else◌, List, length, Option, Some, option_map, ◌++◌, take, drop, replicate}
+use Rattle.std.specs.Prelude.{◌≡◌, ◌≢◌, ◌⊎◌, ℕ, ◌+◌, ◌≤◌, min, ◌^◌, ◌-◌, true, false, if◌then◌else◌, List, Option, Some, None, option_map, replicate}
 use Rattle.model_numbers.specs.Numbers.{page_bytes}
-use Rattle.cow_pages.specs.Address.{page_of, offset_of, is_immune}
-use Rattle.cow_pages.specs.Memory.{Memory, Page, page_at, frame_at, is_live, HasOneSharer, IsShared, IsFree, used_frames}
+use Rattle.page_tables.specs.Address.{page_of, offset_of, is_immune}
+use Rattle.page_tables.specs.Frame.{patched}
+use Rattle.cow_pages.specs.Memory.{Memory, Page, page_at, frame_at, is_live, HasOneSharer, IsShared, IsFree, used_frames, leaf_in, used_leaves, HasOwnLeaf, HasSharedLeaf, IsFreeLeaf}
 
 -- this page may have changed: every other page of every table is as it was, with its bytes, flag and frame
 pub record ChangesPage (old new : Memory) (t p : ℕ) : Type 0 where
@@ -16,27 +17,35 @@ pub record ChangesTable (old new : Memory) (t : ℕ) : Type 0 where
   pub live : (u : ℕ) → u ≢ t → is_live new u ≡ is_live old u
   pub reads : new.reads ≡ old.reads
 
--- as many frames as before, and as many of them free
+-- as many frames and leaves as before, and as many of them used
 pub record KeepsRoom (old new : Memory) : Type 0 where
   pub frames : new.frames ≡ old.frames
+  pub leaf_count : new.leaf_count ≡ old.leaf_count
   pub spare : new.spare ≡ old.spare
+  pub used : used_frames new ≡ used_frames old
+  pub used_leaves : used_leaves new ≡ used_leaves old
 
--- at most one free frame was taken, or where there was none, at most one made
+-- at most one less is spare; where something was, no frame and no leaf was made, and else at most one of each
 pub record TakesFrame (old new : Memory) : Type 0 where
   pub spare : old.spare ≤ new.spare + 1
-  pub had_spare : old.spare ≢ 0 → new.frames ≡ old.frames
+  pub had_spare : old.spare ≢ 0 → (new.frames ≡ old.frames) × (new.leaf_count ≡ old.leaf_count)
   pub frames : new.frames ≤ old.frames + 1
+  pub leaf_count : new.leaf_count ≤ old.leaf_count + 1
 
--- exactly one free frame was taken, after one was made where none was free
+-- exactly one frame more is used, which was made where nothing was spare, if it was made at all
 pub record TakesOne (old new : Memory) : Type 0 where
-  pub spare : new.spare ≡ old.spare - 1
-  pub frames : new.frames ≡ old.frames + (1 - old.spare)
+  pub spare : old.spare ≤ new.spare + 1
+  pub frames : new.frames ≤ old.frames + (1 - old.spare)
+  pub leaf_count : new.leaf_count ≤ old.leaf_count + (1 - old.spare)
   pub used : used_frames new ≡ used_frames old + 1
 
--- no frame was made or lost, and no fewer are free
+-- no frame or leaf was made or lost, and no more of them are used
 pub record FreesFrames (old new : Memory) : Type 0 where
   pub frames : new.frames ≡ old.frames
+  pub leaf_count : new.leaf_count ≡ old.leaf_count
   pub spare : old.spare ≤ new.spare
+  pub used : used_frames new ≤ used_frames old
+  pub used_leaves : used_leaves new ≤ used_leaves old
 
 -- the reads counted after a read at this address
 abbrev pub reads_after : ℕ → ℕ → ℕ
@@ -45,10 +54,6 @@ reads_after reads at = if is_immune at then min (reads + 1) (2 ^ 64 - 1) else re
 -- a page of zeros that is not written
 abbrev pub zero_page : ℕ → Page
 zero_page frame = record { bytes = replicate page_bytes 0; written = false; frame = frame }
-
--- the bytes with these put in from an offset on
-abbrev pub patched : List ℕ → ℕ → List ℕ → List ℕ
-patched bytes offset new = take offset bytes ++ new ++ drop (offset + length new) bytes
 
 -- a written page of these bytes
 abbrev pub written_page : List ℕ → ℕ → Page
@@ -83,3 +88,27 @@ pub record MapsZeros (old new : Memory) (t p : ℕ) : Type 0 where
   pub frame : ℕ
   pub frame_is : IsFree old frame
   pub now : page_at new t p ≡ Some (zero_page frame)
+
+-- every other table has the leaves that it had
+abbrev pub OtherLeaves : Memory → Memory → ℕ → Type 0
+OtherLeaves old new t = (u i : ℕ) → u ≢ t → leaf_in new u i ≡ leaf_in old u i
+
+-- every table has the leaves that it had
+abbrev pub SameLeaves : Memory → Memory → Type 0
+SameLeaves old new = (u i : ℕ) → leaf_in new u i ≡ leaf_in old u i
+
+-- the table has a leaf of its own at this index: a free one in place of one that another table has, or where it had none
+pub record OwnsLeaf (old new : Memory) (t i : ℕ) : Type 0 where
+  pub others : (u j : ℕ) → (u ≢ t) ⊎ (j ≢ i) → leaf_in new u j ≡ leaf_in old u j
+  pub leaf : ℕ
+  pub now : leaf_in new t i ≡ Some leaf
+  pub alone : HasOwnLeaf new t i
+  pub own : leaf_in old t i ≢ None → HasOwnLeaf old t i → (leaf_in old t i ≡ Some leaf) × (used_leaves new ≡ used_leaves old)
+  pub shared : HasSharedLeaf old t i ⊎ (leaf_in old t i ≡ None) → IsFreeLeaf old leaf × (used_leaves new ≡ used_leaves old + 1)
+  pub taken : ((leaf_in old t i ≡ Some leaf) × (used_leaves new ≡ used_leaves old)) ⊎ (IsFreeLeaf old leaf × (used_leaves new ≡ used_leaves old + 1))
+
+-- the table has at this index the leaf that it had, or none any more; every other leaf stays
+pub record LeavesLeaf (old new : Memory) (t i : ℕ) : Type 0 where
+  pub others : (u j : ℕ) → (u ≢ t) ⊎ (j ≢ i) → leaf_in new u j ≡ leaf_in old u j
+  pub here : ((leaf_in new t i ≡ leaf_in old t i) × (used_leaves new ≡ used_leaves old))
+      ⊎ ((leaf_in new t i ≡ None) × (used_leaves new + 1 ≡ used_leaves old))

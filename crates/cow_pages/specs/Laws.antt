@@ -1,10 +1,10 @@
 -- What the laws say of every memory that is sound.
-use Rattle.std.specs.Prelude.{◌≡◌, ℕ, ◌<◌, ◌^◌, false, List, count_by, Contains, Some, IsTrue, nat_eq}
+use Rattle.std.specs.Prelude.{◌≡◌, ◌≢◌, ◌↔◌, is_some, ℕ, ◌<◌, ◌^◌, false, List, count_by, Contains, Some, IsTrue, nat_eq}
 use Rattle.std.specs.Int.{w16, w32, w64, to_le_bytes}
 use Rattle.std.specs.List.{IsDistinct}
-use Rattle.cow_pages.specs.declared.address.Window.{Window}
-use Rattle.cow_pages.specs.Address.{page_of, first_page, page_count, is_in_window}
-use Rattle.cow_pages.specs.Memory.{Memory, frame_at, is_mapped, is_written, mapped_in, written_in}
+use Rattle.page_tables.specs.declared.address.Window.{Window}
+use Rattle.page_tables.specs.Address.{page_of, first_page, page_count, is_in_window, leaf_index}
+use Rattle.cow_pages.specs.Memory.{Memory, frame_at, is_mapped, is_written, mapped_in, written_in, leaf_in, leaf_at}
 use Rattle.cow_pages.specs.View.{View, numbers_from, bytes_at, u16_at, u32_at, u64_at}
 
 -- a byte is below 256, and 0 where no page is; the 4,096 addresses of a page are mapped together, in a window
@@ -41,3 +41,17 @@ pub record AreUsed (m : Memory) (fs : List ℕ) : Type 0 where
   pub differ : IsDistinct nat_eq fs
   pub used : (f : ℕ) → Contains fs f → HasEntry m f
   pub all : (t p f : ℕ) → frame_at m t p ≡ Some f → Contains fs f
+
+-- these are the leaves that some table has, each of them once
+pub record AreUsedLeaves (m : Memory) (ls : List ℕ) : Type 0 where
+  pub differ : IsDistinct nat_eq ls
+  pub used : (l : ℕ) → Contains ls l → (t : ℕ) × (i : ℕ) × (leaf_in m t i ≡ Some l)
+  pub all : (t i l : ℕ) → leaf_in m t i ≡ Some l → Contains ls l
+
+-- the leaves of two tables: pages of one table share a leaf by their numbers alone, two tables that share one have the
+-- same pages there, no flag among them, and no leaf is without a page
+pub record ShareLeaves (m : Memory) : Type 0 where
+  pub there : (t p : ℕ) → is_some (leaf_at m t p) ≡ is_mapped m t p
+  pub together : (t p q : ℕ) → IsTrue (is_mapped m t p) → IsTrue (is_mapped m t q) → (leaf_at m t p ≡ leaf_at m t q) ↔ (leaf_index p ≡ leaf_index q)
+  pub unwritten : (t u p l : ℕ) → t ≢ u → leaf_at m t p ≡ Some l → leaf_at m u p ≡ Some l → is_written m t p ≡ false
+  pub filled : (t i l : ℕ) → leaf_in m t i ≡ Some l → (p : ℕ) × (leaf_at m t p ≡ Some l)

@@ -1,11 +1,8 @@
 pub mod Access
-pub mod Address
 pub mod Memory
 pub mod View
 pub mod Change
-pub mod Counts
-pub mod Place
-pub mod Pool
-pub mod Tables
 pub mod Store
+pub mod Steps
+pub mod Only
 pub mod Laws

@@ -1,9 +1,9 @@
 -- What a contract sees of a `Frames`: its tables, each as the list of its pages.
-use Rattle.std.specs.Prelude.{◌≡◌, ◌≢◌, ℕ, ◌+◌, ◌<◌, ◌==◌, Bool, false, if◌then◌else◌, List, [], ◌∷◌, ◌++◌, length, map, All, count_by, Option, Some, None, is_some, option_map, slice_index_or, IsTrue, ◌&&◌, nat_le}
+use Rattle.std.specs.Prelude.{◌≡◌, ◌≢◌, ℕ, ◌+◌, ◌-◌, ◌^◌, ◌<◌, ◌≤◌, min, ◌==◌, Bool, false, if◌then◌else◌, List, [], ◌∷◌, ◌++◌, length, map, All, count_by, Option, Some, None, is_some, option_map, slice_index_or, IsTrue, ◌&&◌, nat_le}
 use Rattle.std.specs.List.{list_any}
 use Rattle.model_numbers.specs.Numbers.{page_bytes}
-use Rattle.cow_pages.specs.declared.address.Window.{Window}
-use Rattle.cow_pages.specs.Address.{is_in, is_in_window}
+use Rattle.page_tables.specs.declared.address.Window.{Window}
+use Rattle.page_tables.specs.Address.{is_in, is_in_window, leaf_index}
 
 -- the bytes of a page, whether it was written since it was last settled, and the frame that it stands in
 pub record Page : Type 0 where
@@ -15,10 +15,13 @@ pub record Page : Type 0 where
 abbrev pub Table : Type 0
 Table = List (ℕ × Page)
 
--- the live tables by number, how many frames there are, how many are free, and the reads counted so far
+-- the live tables by number, the leaves of each of them by their index, how many frames and leaves there are, how many
+-- of the frames and of the leaves are free, the lesser of both, and the reads counted so far
 pub record Memory : Type 0 where
   pub tables : List (Option Table)
+  pub leaves : List (List (Option ℕ))
   pub frames : ℕ
+  pub leaf_count : ℕ
   pub spare : ℕ
   pub reads : ℕ
 
@@ -91,6 +94,45 @@ distinct_count (x ∷ xs) = (if list_any (λ y. y == x) xs then 0 else 1) + dist
 abbrev pub used_frames : Memory → ℕ
 used_frames m = distinct_count (frames_of m.tables)
 
+-- the leaf that a table has for the pages of an index
+abbrev pub leaf_in : Memory → ℕ → ℕ → Option ℕ
+leaf_in m t i = slice_index_or (slice_index_or m.leaves t []) i None
+
+-- the leaf in which a table's page stands, if the page is mapped
+abbrev pub leaf_at : Memory → ℕ → ℕ → Option ℕ
+leaf_at m t p = if is_mapped m t p then leaf_in m t (leaf_index p) else None
+
+-- no other table has this leaf
+abbrev pub HasOwnLeaf : Memory → ℕ → ℕ → Type 0
+HasOwnLeaf m t i = (u : ℕ) → leaf_in m u i ≡ leaf_in m t i → u ≡ t
+
+-- another table has this leaf, for the same pages
+abbrev pub HasSharedLeaf : Memory → ℕ → ℕ → Type 0
+HasSharedLeaf m t i = (u : ℕ) × (u ≢ t) × (leaf_in m u i ≡ leaf_in m t i)
+
+-- no table has the leaf
+abbrev pub IsFreeLeaf : Memory → ℕ → Type 0
+IsFreeLeaf m l = (t i : ℕ) → leaf_in m t i ≢ Some l
+
+-- the leaf that may stand at an index, in a list
+abbrev pub leaf_list : Option ℕ → List ℕ
+leaf_list None = []
+leaf_list (Some l) = l ∷ []
+
+-- the leaves of a row of them
+abbrev pub row_leaves : List (Option ℕ) → List ℕ
+row_leaves [] = []
+row_leaves (leaf ∷ rest) = leaf_list leaf ++ row_leaves rest
+
+-- the leaves of all tables, one for each table that has it
+abbrev pub leaves_of : List (List (Option ℕ)) → List ℕ
+leaves_of [] = []
+leaves_of (row ∷ rest) = row_leaves row ++ leaves_of rest
+
+-- how many leaves some table has
+abbrev pub used_leaves : Memory → ℕ
+used_leaves m = distinct_count (leaves_of m.leaves)
+
 -- how many pages of a window a table has
 abbrev pub mapped_in : Memory → ℕ → Window → ℕ
 mapped_in m t w = count_by (λ (it : ℕ × Page). is_in w it.0) (table_of m t)
@@ -115,4 +157,11 @@ pub record IsSound (m : Memory) : Type 0 where
   pub same_bytes : (t u p : ℕ) (one other : Page) → page_at m t p ≡ Some one → page_at m u p ≡ Some other
       → one.frame ≡ other.frame → one.bytes ≡ other.bytes
   pub written_alone : (t p : ℕ) → IsTrue (is_written m t p) → HasOneSharer m t p
-  pub counted : used_frames m + m.spare ≡ m.frames
+  pub frames_counted : used_frames m ≤ m.frames
+  pub leaves_counted : used_leaves m ≤ m.leaf_count
+  pub spare_is : m.spare ≡ min (m.frames - used_frames m) (m.leaf_count - used_leaves m)
+  pub reads_fit : m.reads < 2 ^ 64
+  pub leaf_there : (t p : ℕ) → IsTrue (is_mapped m t p) → IsTrue (is_some (leaf_in m t (leaf_index p)))
+  pub leaf_filled : (t i l : ℕ) → leaf_in m t i ≡ Some l → (p : ℕ) × (leaf_index p ≡ i) × IsTrue (is_mapped m t p)
+  pub same_leaf : (t i u j l : ℕ) → leaf_in m t i ≡ Some l → leaf_in m u j ≡ Some l
+      → (i ≡ j) × ((p : ℕ) → leaf_index p ≡ i → page_at m t p ≡ page_at m u p)

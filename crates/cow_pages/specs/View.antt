@@ -1,7 +1,7 @@
 -- A table as its addresses: a byte at each, and whether it is mapped. The layers above speak of memory by this alone.
 use Rattle.std.specs.Prelude.{◌≡◌, ◌≢◌, ◌⊎◌, true, false, ℕ, zero, suc, ◌+◌, ◌<◌, ◌≤◌, Bool, List, [], ◌∷◌, map, length, Option, Some, None, slice_index}
 use Rattle.std.specs.Int.{w16, w32, w64, from_le_bytes}
-use Rattle.cow_pages.specs.Address.{page_of, offset_of}
+use Rattle.page_tables.specs.Address.{page_of, offset_of}
 use Rattle.cow_pages.specs.Memory.{Memory, Page, page_at, is_mapped}
 
 -- the byte at each address, 0 where none is mapped, and whether the address is mapped

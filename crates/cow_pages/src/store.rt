@@ -1,385 +1,135 @@
-//! All frames and all tables.
-ghost use Rattle.std.specs.Prelude.{◌≡◌, ◌≢◌, ◌⊎◌, ◌+◌, ◌-◌, ◌<◌, ◌≤◌, ℕ, [], length, IsOk, IfOk, OnOk, OnErr, Some, None, true, false, IsTrue, slice_index_or};
-ghost use Rattle.model_numbers.specs.Numbers.{page_bytes};
-ghost use Rattle.cow_pages.specs.Address.{page_of, offset_of, is_in_window};
-ghost use Rattle.cow_pages.specs.Memory.{is_live, is_mapped, page_at, frame_at, IsSettled, HasOneSharer, IsShared};
-ghost use Rattle.cow_pages.specs.Change.{ChangesPage, ChangesTable, FreesFrames, KeepsRoom, MapsZeros, TakesFrame, TakesOnCopy, TakesOne, WritesPage, patched, reads_after, settled, written_page};
-ghost use Rattle.cow_pages.specs.Place.{place_count, page_number};
-ghost use Rattle.cow_pages.specs.Pool.{bytes_of, sharers_of};
-ghost use Rattle.cow_pages.specs.Tables.{entries_of, entry_at, AddsTable, AreCounted, IsCounted, SameTables, SetsEntry};
-ghost use Rattle.cow_pages.specs.Store.{shown, IsKept, AddsRoom, OwnsPage};
+//! All frames, leaves and tables, and how an entry is found.
+ghost use Rattle.std.specs.Prelude.{◌≡◌, ◌<◌, [], length, IsTrue, is_some, slice_index_or};
+ghost use Rattle.page_tables.specs.Address.{page_of, leaf_pages};
+ghost use Rattle.cow_pages.specs.Memory.{is_live, is_mapped, frame_at, leaf_at};
+ghost use Rattle.cow_pages.specs.Change.{reads_after};
+ghost use Rattle.page_tables.specs.Grid.{cell};
+ghost use Rattle.cow_pages.specs.Store.{shown, place_at, entry_at, leaf_grid, table_grid, IsStore};
 
-use crate::address::{Addr, PageNo, TableNo};
-use crate::pool::Pool;
-use crate::table::{Entry, Table, place_of};
-use std::alloc::{AllocError, Global};
+use page_tables::{ALL_PAGES, Addr, Entry, Frame, LEAF_PAGES, Leaf, Table};
+use sharers::Sharers;
+use std::alloc::Global;
 
+/// Each frame counts the slots of leaves that have it, and each leaf the tables that have it.
 #[derive(Drop)]
 pub struct Store {
     pub alloc: Global,
-    pub pool: Pool,
+    pub frames: Vec<Frame>,
+    pub frame_counts: Sharers,
+    pub leaves: Vec<Leaf>,
+    pub leaf_counts: Sharers,
     /// By number. A table that was dropped leaves its number to a later one.
     pub tables: Vec<Option<Table>>,
+    /// Which numbers name a table.
+    pub table_counts: Sharers,
     pub reads: u64,
 }
 
 impl Store {
     pub fn new(alloc: Global) -> Store
-        ensures empty { (result.pool.frames.items ≡ []) × (result.tables.items ≡ []) }
-        ensures spare { result.pool.spare ≡ 0 }
+        ensures frames { (result.frames.items ≡ []) × (result.frame_counts.counts ≡ []) × (result.frame_counts.spare ≡ 0) }
+        ensures leaves { (result.leaves.items ≡ []) × (result.leaf_counts.counts ≡ []) × (result.leaf_counts.spare ≡ 0) }
+        ensures tables { (result.tables.items ≡ []) × (result.table_counts.counts ≡ []) × (result.table_counts.spare ≡ 0) }
         ensures reads { result.reads ≡ 0 }
     {
         Store {
             alloc,
-            pool: Pool::new(alloc),
+            frames: Vec::new(alloc),
+            frame_counts: Sharers::new(alloc),
+            leaves: Vec::new(alloc),
+            leaf_counts: Sharers::new(alloc),
             tables: Vec::new(alloc),
+            table_counts: Sharers::new(alloc),
             reads: 0,
         }
     }
 
-    /// Makes so many frames free, as far as there are fewer.
-    pub fn reserve(&mut self, count: usize) -> Result<(), AllocError>
-        requires { IsKept self.old }
-        ensures kept { IsKept self.new }
-        ensures tables { self.new.tables ≡ self.old.tables }
-        ensures made { OnOk result (AddsRoom self.old self.new (count - self.old.pool.spare)) }
-        ensures enough { count ≤ self.old.pool.spare → IsOk result }
-        ensures err { OnErr result (shown self.new ≡ shown self.old) }
+    /// The leaf that a table has at an index.
+    #[inline]
+    pub fn place(&self, t: usize, index: usize) -> Option<u32>
+        requires live { IsTrue (is_some (slice_index_or self.now.tables.items t None)) }
+        requires within { index < length (slice_index_or (table_grid self.now) t []) }
+        ensures { result ≡ place_at self.now t index }
     {
-        let spare = self.pool.spare;
-        if count > spare {
-            self.pool.add_frames(count - spare)?;
+        match &self.tables[t] {
+            Some(table) => table.leaves[index],
+            None => unreachable!(),
         }
-        Ok(())
     }
 
+    /// The entry in a slot of a leaf.
     #[inline]
-    pub fn entry(&self, t: TableNo, place: usize) -> Option<Entry>
-        requires kept { IsKept self.now }
-        requires live { IsTrue (is_live (shown self.now) t.0) }
-        requires place { place < place_count }
-        ensures { result ≡ entry_at self.now.tables.items t.0 place }
+    fn slot(&self, leaf: usize, slot: usize) -> Option<Entry>
+        requires leaf { leaf < length self.now.leaves.items }
+        requires slot { slot < leaf_pages }
+        ensures { result ≡ cell (leaf_grid self.now) leaf slot }
     {
-        match &self.tables[t.0] {
-            Some(table) => table.entry(place),
+        self.leaves[leaf].entries[slot]
+    }
+
+    /// The entry of a page, if it is mapped.
+    #[inline]
+    pub fn entry(&self, t: usize, page: u32) -> Option<Entry>
+        requires store { IsStore self.now }
+        requires live { IsTrue (is_live (shown self.now) t) }
+        ensures { result ≡ entry_at self.now t page }
+    {
+        if page >= ALL_PAGES {
+            return None;
+        }
+        match self.place(t, page as usize / LEAF_PAGES) {
+            Some(leaf) => self.slot(leaf as usize, page as usize % LEAF_PAGES),
             None => None,
         }
     }
 
-    fn set_entry(&mut self, t: TableNo, place: usize, entry: Option<Entry>)
-        requires counted { AreCounted self.old.tables.items }
-        requires live { IsTrue (is_live (shown self.old) t.0) }
-        requires place { place < place_count }
-        ensures entry { SetsEntry self.old.tables.items self.new.tables.items t.0 place entry }
-        ensures pool { self.new.pool ≡ self.old.pool }
-        ensures reads { self.new.reads ≡ self.old.reads }
+    /// The leaf of a page, if the page is mapped.
+    pub fn leaf(&self, t: usize, page: u32) -> Option<u32>
+        requires store { IsStore self.now }
+        requires live { IsTrue (is_live (shown self.now) t) }
+        ensures { result ≡ leaf_at (shown self.now) t page }
     {
-        match &mut self.tables[t.0] {
-            Some(table) => table.set(place, entry),
-            None => unreachable!(),
+        match self.entry(t, page) {
+            Some(_entry) => self.place(t, page as usize / LEAF_PAGES),
+            None => None,
         }
     }
 
-    pub fn map_zero(&mut self, t: TableNo, page: PageNo) -> Result<(), AllocError>
-        requires kept { IsKept self.old }
-        requires live { IsTrue (is_live (shown self.old) t.0) }
-        requires window { IsTrue (is_in_window page.0) }
-        requires unmapped { page_at (shown self.old) t.0 page.0 ≡ None }
-        ensures kept { IsKept self.new }
-        ensures zeros { OnOk result (MapsZeros (shown self.old) (shown self.new) t.0 page.0) }
-        ensures rest { OnOk result (ChangesPage (shown self.old) (shown self.new) t.0 page.0) }
-        ensures takes { OnOk result (TakesFrame (shown self.old) (shown self.new)) }
-        ensures one { OnOk result (TakesOne (shown self.old) (shown self.new)) }
-        ensures succeeds { self.old.pool.spare ≢ 0 → IsOk result }
-        ensures err { OnErr result (shown self.new ≡ shown self.old) }
+    /// The entry of a page that is mapped.
+    #[inline]
+    pub fn mapped_entry(&self, t: usize, page: u32) -> Entry
+        requires store { IsStore self.now }
+        requires mapped { IsTrue (is_mapped (shown self.now) t page) }
+        ensures { entry_at self.now t page ≡ Some result }
     {
-        let Some(place) = place_of(page) else {
+        let Some(leaf) = self.place(t, page as usize / LEAF_PAGES) else {
             unreachable!()
         };
-        self.reserve(1)?;
-        let number = self.pool.take_zeros();
-        self.set_entry(t, place, Some(Entry::new(number)));
-        Ok(())
+        match self.slot(leaf as usize, page as usize % LEAF_PAGES) {
+            Some(entry) => entry,
+            None => unreachable!(),
+        }
     }
 
     /// Counts a read, and finds the frame of the page.
     #[inline]
-    pub fn read(&mut self, t: TableNo, at: Addr) -> usize
-        requires kept { IsKept self.old }
-        requires mapped { IsTrue (is_mapped (shown self.old) t.0 (page_of at.0)) }
-        ensures number { frame_at (shown self.old) t.0 (page_of at.0) ≡ Some result }
+    pub fn read(&mut self, t: usize, at: Addr) -> usize
+        requires store { IsStore self.old }
+        requires mapped { IsTrue (is_mapped (shown self.old) t (page_of at.0)) }
+        ensures number { frame_at (shown self.old) t (page_of at.0) ≡ Some result }
         ensures store { self.new ≡ record self.old { reads = reads_after self.old.reads at.0 } }
+    {
+        self.count_read(at);
+        self.mapped_entry(t, at.page().0).frame as usize
+    }
+
+    /// Counts a read where its address is in the image or zygote window.
+    #[inline]
+    fn count_read(&mut self, at: Addr)
+        ensures { self.new ≡ record self.old { reads = reads_after self.old.reads at.0 } }
     {
         if at.is_immune() {
             self.reads = self.reads.saturating_add(1);
-        }
-        self.frame_number(t, at.page())
-    }
-
-    #[inline]
-    fn frame_number(&self, t: TableNo, page: PageNo) -> usize
-        requires kept { IsKept self.now }
-        requires mapped { IsTrue (is_mapped (shown self.now) t.0 page.0) }
-        ensures { frame_at (shown self.now) t.0 page.0 ≡ Some result }
-    {
-        let Some(place) = place_of(page) else {
-            unreachable!()
-        };
-        match self.entry(t, place) {
-            Some(entry) => entry.frame as usize,
-            None => unreachable!(),
-        }
-    }
-
-    /// Writes the bytes in a frame that no other entry has, and sets the page's flag. A page whose flag is set has
-    /// such a frame.
-    #[inline]
-    pub fn write(&mut self, t: TableNo, at: Addr, bytes: &[u8]) -> Result<(), AllocError>
-        requires kept { IsKept self.old }
-        requires mapped { IsTrue (is_mapped (shown self.old) t.0 (page_of at.0)) }
-        requires room { offset_of at.0 + length bytes.now ≤ page_bytes }
-        ensures kept { IsKept self.new }
-        ensures page { OnOk result (WritesPage (shown self.old) (shown self.new) t.0 at.0 bytes.now) }
-        ensures takes { OnOk result (TakesOnCopy (shown self.old) (shown self.new) t.0 (page_of at.0)) }
-        ensures succeeds { HasOneSharer (shown self.old) t.0 (page_of at.0) ⊎ (self.old.pool.spare ≢ 0) → IsOk result }
-        ensures only { OnErr result (IsShared (shown self.old) t.0 (page_of at.0) × (self.old.pool.spare ≡ 0)) }
-        ensures err { OnErr result (shown self.new ≡ shown self.old) }
-    {
-        let Some(place) = place_of(at.page()) else {
-            unreachable!()
-        };
-        let Some(entry) = self.entry(t, place) else {
-            unreachable!()
-        };
-        if entry.written {
-            self.put(t, place, entry, at.offset(), bytes);
-            return Ok(());
-        }
-        self.write_first(t, at, bytes)
-    }
-
-    /// Writes the bytes where the page's flag may not be set yet.
-    #[inline(never)]
-    fn write_first(&mut self, t: TableNo, at: Addr, bytes: &[u8]) -> Result<(), AllocError>
-        requires kept { IsKept self.old }
-        requires mapped { IsTrue (is_mapped (shown self.old) t.0 (page_of at.0)) }
-        requires room { offset_of at.0 + length bytes.now ≤ page_bytes }
-        ensures kept { IsKept self.new }
-        ensures page { OnOk result (WritesPage (shown self.old) (shown self.new) t.0 at.0 bytes.now) }
-        ensures takes { OnOk result (TakesOnCopy (shown self.old) (shown self.new) t.0 (page_of at.0)) }
-        ensures succeeds { HasOneSharer (shown self.old) t.0 (page_of at.0) ⊎ (self.old.pool.spare ≢ 0) → IsOk result }
-        ensures only { OnErr result (IsShared (shown self.old) t.0 (page_of at.0) × (self.old.pool.spare ≡ 0)) }
-        ensures err { OnErr result (shown self.new ≡ shown self.old) }
-    {
-        let Some(place) = place_of(at.page()) else {
-            unreachable!()
-        };
-        let Some(entry) = self.entry(t, place) else {
-            unreachable!()
-        };
-        let own = self.own(t, place, entry)?;
-        self.put(t, place, own, at.offset(), bytes);
-        Ok(())
-    }
-
-    /// Gives an entry a frame with the same bytes that no other entry has.
-    #[inline]
-    fn own(&mut self, t: TableNo, place: usize, entry: Entry) -> Result<Entry, AllocError>
-        requires kept { IsKept self.old }
-        requires place { place < place_count }
-        requires there { entry_at self.old.tables.items t.0 place ≡ Some entry }
-        ensures kept { IsKept self.new }
-        ensures owns { IfOk result (λ it. OwnsPage self.old self.new t.0 place entry it) }
-        ensures takes { OnOk result (TakesOnCopy (shown self.old) (shown self.new) t.0 (page_number place)) }
-        ensures succeeds { HasOneSharer (shown self.old) t.0 (page_number place) ⊎ (self.old.pool.spare ≢ 0) → IsOk result }
-        ensures only { OnErr result (IsShared (shown self.old) t.0 (page_number place) × (self.old.pool.spare ≡ 0)) }
-        ensures err { OnErr result (shown self.new ≡ shown self.old) }
-    {
-        let sharers = self.pool.frames[entry.frame as usize].sharers;
-        if sharers == 1 {
-            return Ok(entry);
-        }
-        self.copy(t, place, entry)
-    }
-
-    /// Gives an entry whose frame has another a copy of it.
-    #[inline(never)]
-    fn copy(&mut self, t: TableNo, place: usize, entry: Entry) -> Result<Entry, AllocError>
-        requires kept { IsKept self.old }
-        requires place { place < place_count }
-        requires there { entry_at self.old.tables.items t.0 place ≡ Some entry }
-        requires shared { sharers_of self.old.pool.frames.items entry.frame ≢ 1 }
-        ensures kept { IsKept self.new }
-        ensures owns { IfOk result (λ it. OwnsPage self.old self.new t.0 place entry it) }
-        ensures takes { OnOk result (TakesOnCopy (shown self.old) (shown self.new) t.0 (page_number place)) }
-        ensures succeeds { self.old.pool.spare ≢ 0 → IsOk result }
-        ensures only { OnErr result (IsShared (shown self.old) t.0 (page_number place) × (self.old.pool.spare ≡ 0)) }
-        ensures err { OnErr result (shown self.new ≡ shown self.old) }
-    {
-        self.reserve(1)?;
-        let number = self.pool.take_copy(entry.frame as usize);
-        let own = Entry::new(number);
-        self.set_entry(t, place, Some(own));
-        Ok(own)
-    }
-
-    /// Puts bytes into the frame of an entry, which no other has, and sets its flag.
-    #[inline]
-    fn put(&mut self, t: TableNo, place: usize, entry: Entry, offset: usize, bytes: &[u8])
-        requires kept { IsKept self.old }
-        requires place { place < place_count }
-        requires there { entry_at self.old.tables.items t.0 place ≡ Some entry }
-        requires alone { sharers_of self.old.pool.frames.items entry.frame ≡ 1 }
-        requires room { offset + length bytes.now ≤ page_bytes }
-        ensures kept { IsKept self.new }
-        ensures now { page_at (shown self.new) t.0 (page_number place) ≡ Some (written_page (patched (bytes_of self.old.pool.frames.items entry.frame) offset bytes.now) entry.frame) }
-        ensures rest { ChangesPage (shown self.old) (shown self.new) t.0 (page_number place) }
-        ensures room { KeepsRoom (shown self.old) (shown self.new) }
-    {
-        self.pool.put(entry.frame as usize, offset, bytes);
-        self.mark(t, place, entry);
-    }
-
-    /// Sets the flag of an entry.
-    #[inline]
-    fn mark(&mut self, t: TableNo, place: usize, entry: Entry)
-        requires counted { AreCounted self.old.tables.items }
-        requires live { IsTrue (is_live (shown self.old) t.0) }
-        requires place { place < place_count }
-        requires there { entry_at self.old.tables.items t.0 place ≡ Some entry }
-        ensures entry { SetsEntry self.old.tables.items self.new.tables.items t.0 place (Some (record entry { written = true })) }
-        ensures pool { self.new.pool ≡ self.old.pool }
-        ensures reads { self.new.reads ≡ self.old.reads }
-    {
-        if entry.written {
-            return;
-        }
-        self.set_entry(t, place, Some(entry.with_flag()));
-    }
-
-    /// The number of a table that is not there.
-    fn vacant(&mut self) -> Result<usize, AllocError>
-        ensures number { IfOk result (λ it. (it < length self.new.tables.items) × (slice_index_or self.new.tables.items it None ≡ None)) }
-        ensures tables { SameTables self.old.tables.items self.new.tables.items }
-        ensures pool { self.new.pool ≡ self.old.pool }
-        ensures reads { self.new.reads ≡ self.old.reads }
-        ensures err { OnErr result (self.new.tables.items ≡ self.old.tables.items) }
-    {
-        for number in 0..self.tables.len() {
-            if self.tables[number].is_none() {
-                return Ok(number);
-            }
-        }
-        let number = self.tables.len();
-        self.tables.push(None)?;
-        Ok(number)
-    }
-
-    /// Puts a table under a number that no table has.
-    fn set_table(&mut self, number: usize, table: Table)
-        requires within { number < length self.old.tables.items }
-        requires vacant { slice_index_or self.old.tables.items number None ≡ None }
-        requires counted { AreCounted self.old.tables.items }
-        requires table { IsCounted table }
-        ensures adds { AddsTable self.old.tables.items self.new.tables.items number table }
-        ensures pool { self.new.pool ≡ self.old.pool }
-        ensures reads { self.new.reads ≡ self.old.reads }
-    {
-        self.tables[number] = Some(table);
-    }
-
-    pub fn new_table(&mut self) -> Result<usize, AllocError>
-        requires { IsKept self.old }
-        ensures kept { IsKept self.new }
-        ensures fresh { IfOk result (λ u. is_live (shown self.old) u ≡ false) }
-        ensures live { IfOk result (λ u. IsTrue (is_live (shown self.new) u)) }
-        ensures pages { IfOk result (λ u. (p : ℕ) → page_at (shown self.new) u p ≡ None) }
-        ensures rest { IfOk result (λ u. ChangesTable (shown self.old) (shown self.new) u) }
-        ensures room { KeepsRoom (shown self.old) (shown self.new) }
-        ensures err { OnErr result (shown self.new ≡ shown self.old) }
-    {
-        let table = Table::new(self.alloc)?;
-        let number = self.vacant()?;
-        self.set_table(number, table);
-        Ok(number)
-    }
-
-    pub fn fork_table(&mut self, t: TableNo) -> Result<usize, AllocError>
-        requires kept { IsKept self.old }
-        requires live { IsTrue (is_live (shown self.old) t.0) }
-        requires settled { IsSettled (shown self.old) t.0 }
-        ensures kept { IsKept self.new }
-        ensures fresh { IfOk result (λ u. is_live (shown self.old) u ≡ false) }
-        ensures live { IfOk result (λ u. IsTrue (is_live (shown self.new) u)) }
-        ensures pages { IfOk result (λ u. (p : ℕ) → page_at (shown self.new) u p ≡ page_at (shown self.old) t.0 p) }
-        ensures rest { IfOk result (λ u. ChangesTable (shown self.old) (shown self.new) u) }
-        ensures room { KeepsRoom (shown self.old) (shown self.new) }
-        ensures err { OnErr result (shown self.new ≡ shown self.old) }
-    {
-        let table = self.copy_table(t)?;
-        let number = self.vacant()?;
-        self.pool.share_all(table.entries.as_slice());
-        self.set_table(number, table);
-        Ok(number)
-    }
-
-    fn copy_table(&self, t: TableNo) -> Result<Table, AllocError>
-        requires kept { IsKept self.now }
-        requires live { IsTrue (is_live (shown self.now) t.0) }
-        ensures entries { IfOk result (λ it. it.entries.items ≡ entries_of (slice_index_or self.now.tables.items t.0 None)) }
-        ensures counted { IfOk result IsCounted }
-    {
-        match &self.tables[t.0] {
-            Some(table) => table.copy(),
-            None => unreachable!(),
-        }
-    }
-
-    pub fn settle(&mut self, t: TableNo)
-        requires kept { IsKept self.old }
-        requires live { IsTrue (is_live (shown self.old) t.0) }
-        ensures kept { IsKept self.new }
-        ensures live { IsTrue (is_live (shown self.new) t.0) }
-        ensures pages { (p : ℕ) → page_at (shown self.new) t.0 p ≡ settled (page_at (shown self.old) t.0 p) }
-        ensures rest { ChangesTable (shown self.old) (shown self.new) t.0 }
-        ensures room { KeepsRoom (shown self.old) (shown self.new) }
-    {
-        match &mut self.tables[t.0] {
-            Some(table) => table.settle(),
-            None => unreachable!(),
-        }
-    }
-
-    pub fn release(&mut self, t: TableNo, page: PageNo)
-        requires kept { IsKept self.old }
-        requires mapped { IsTrue (is_mapped (shown self.old) t.0 page.0) }
-        ensures kept { IsKept self.new }
-        ensures unmapped { page_at (shown self.new) t.0 page.0 ≡ None }
-        ensures rest { ChangesPage (shown self.old) (shown self.new) t.0 page.0 }
-        ensures room { FreesFrames (shown self.old) (shown self.new) }
-        ensures freed { HasOneSharer (shown self.old) t.0 page.0 → self.new.pool.spare ≡ self.old.pool.spare + 1 }
-    {
-        let Some(place) = place_of(page) else {
-            unreachable!()
-        };
-        let Some(entry) = self.entry(t, place) else {
-            unreachable!()
-        };
-        self.pool.unshare(entry.frame as usize);
-        self.set_entry(t, place, None);
-    }
-
-    pub fn drop_table(&mut self, t: TableNo)
-        requires kept { IsKept self.old }
-        requires live { IsTrue (is_live (shown self.old) t.0) }
-        ensures kept { IsKept self.new }
-        ensures ended { is_live (shown self.new) t.0 ≡ false }
-        ensures rest { ChangesTable (shown self.old) (shown self.new) t.0 }
-        ensures room { FreesFrames (shown self.old) (shown self.new) }
-    {
-        match self.tables[t.0].take() {
-            Some(table) => self.pool.unshare_all(table.entries.as_slice()),
-            None => unreachable!(),
         }
     }
 }

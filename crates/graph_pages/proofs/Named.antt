@@ -5,9 +5,9 @@ use Rattle.std.proofs.lemmas.Bool.{and_from, and_parts, cases_lt, eqb-true, le-l
 use Rattle.model_numbers.specs.Numbers.{page_bytes, zygote_base}
 use Rattle.class_layout.specs.ClassList.{Class}
 use Rattle.class_layout.specs.Placing.{IsIn}
-use Rattle.cow_pages.specs.declared.address.Window.{Window}
-use Rattle.cow_pages.specs.declared.address.Window.TheVariants as window
-use Rattle.cow_pages.specs.Address.{first_page, is_in, page_count, page_of}
+use Rattle.page_tables.specs.declared.address.Window.{Window}
+use Rattle.page_tables.specs.declared.address.Window.TheVariants as window
+use Rattle.page_tables.specs.Address.{first_page, is_in, page_count, page_of}
 use Rattle.cow_pages.specs.Memory.{is_mapped, Memory}
 use Rattle.heap_graph.specs.declared.names.Place.{Place}
 use Rattle.heap_graph.specs.declared.names.Place.TheVariants as place

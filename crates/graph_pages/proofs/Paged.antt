@@ -6,8 +6,8 @@ use Rattle.std.proofs.lemmas.Bool.{and_from, and_parts, cases_eq, leb-true, le-l
 use Rattle.std.proofs.lemmas.List.Folds.{list_any-append}
 use Rattle.class_layout.specs.ClassList.{Class}
 use Rattle.class_layout.specs.Placing.{IsIn}
-use Rattle.cow_pages.specs.declared.address.Window.{Window}
-use Rattle.cow_pages.specs.Address.{page_of}
+use Rattle.page_tables.specs.declared.address.Window.{Window}
+use Rattle.page_tables.specs.Address.{page_of}
 use Rattle.cow_pages.specs.Memory.{is_mapped, Memory}
 use Rattle.heap_graph.specs.Sizes.{size_in}
 use Rattle.object_view.proofs.Laid.{size-bounds}

@@ -2,9 +2,9 @@
 use Rattle.std.specs.Prelude.{◌≡◌, ℕ, ◌+◌, ◌-◌, Bool, true, ◌&&◌, nat_le, List, []}
 use Rattle.std.specs.List.{list_any}
 use Rattle.class_layout.specs.ClassList.{Class}
-use Rattle.cow_pages.specs.declared.address.Window.{Window}
-use Rattle.cow_pages.specs.declared.address.Window.TheVariants as window
-use Rattle.cow_pages.specs.Address.{first_page, is_in, page_of}
+use Rattle.page_tables.specs.declared.address.Window.{Window}
+use Rattle.page_tables.specs.declared.address.Window.TheVariants as window
+use Rattle.page_tables.specs.Address.{first_page, is_in, page_of}
 use Rattle.cow_pages.specs.Memory.{is_mapped, Memory}
 use Rattle.cow_pages.specs.View.{view_of}
 use Rattle.heap_graph.specs.declared.names.Place.{Place}

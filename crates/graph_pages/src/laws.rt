@@ -3,8 +3,8 @@ ghost use Rattle.std.specs.Prelude.{◌≡◌, ◌↔◌, ◌||◌, ◌++◌, �
 ghost use Rattle.class_layout.specs.declared.kind.Kind.{Kind};
 ghost use Rattle.class_layout.specs.ClassList.{Class};
 ghost use Rattle.class_layout.specs.Placing.{IsIn};
-ghost use Rattle.cow_pages.specs.declared.address.Window.{Window};
-ghost use Rattle.cow_pages.specs.Address.{page_of};
+ghost use Rattle.page_tables.specs.declared.address.Window.{Window};
+ghost use Rattle.page_tables.specs.Address.{page_of};
 ghost use Rattle.cow_pages.specs.Memory.{is_mapped, Memory};
 ghost use Rattle.cow_pages.specs.View.{View};
 ghost use Rattle.heap_graph.specs.declared.names.Stored.{Stored};

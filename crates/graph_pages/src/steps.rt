@@ -2,7 +2,7 @@
 ghost use Rattle.std.specs.Prelude.{◌≡◌, ◌⊎◌, ◌≢◌, [], ℕ, ◌+◌, ◌%◌, ◌<◌, ◌≤◌, Bool, true, IsTrue, IsOk, OnOk, OnErr};
 ghost use Rattle.model_numbers.specs.Numbers.{number_limit};
 ghost use Rattle.class_layout.specs.declared.kind.FieldAt.{FieldAt};
-ghost use Rattle.cow_pages.specs.Address.{page_of};
+ghost use Rattle.page_tables.specs.Address.{page_of};
 ghost use Rattle.cow_pages.specs.Memory.{HasOneSharer, IsSound};
 ghost use Rattle.cow_pages.specs.View.{view_of};
 ghost use Rattle.heap_graph.specs.declared.names.Content.{Content};

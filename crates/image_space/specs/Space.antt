@@ -1,12 +1,10 @@
 -- The image space: objects placed one directly behind the other, and the pages that hold their bytes.
-use Rattle.std.specs.Prelude.{◌≡◌, ◌≢◌, ◌⊎◌, ℕ, ◌+◌, ◌-◌, ◌/◌, ◌%◌, ◌<◌, ◌≤◌, ◌==◌, ◌||◌, nat_lt, true, false, IsTrue, List, [], ◌∷◌, sum}
+use Rattle.std.specs.Prelude.{◌≡◌, ℕ, ◌+◌, ◌-◌, ◌/◌, ◌%◌, ◌≤◌, ◌==◌, ◌||◌, nat_lt, IsTrue, List, [], ◌∷◌, sum}
 use Rattle.std.specs.List.{list_any}
 use Rattle.model_numbers.specs.Numbers.{image_base, image_length, page_bytes, most_array_bytes}
-use Rattle.cow_pages.specs.declared.address.Window.TheVariants.{Image}
-use Rattle.cow_pages.specs.Address.{page_of, first_page, is_in}
-use Rattle.cow_pages.specs.Memory.{Memory, page_at, is_live, is_mapped, used_frames, HasOneSharer}
-use Rattle.cow_pages.specs.Change.{MapsZeros}
-use Rattle.cow_pages.specs.View.{View}
+use Rattle.page_tables.specs.declared.address.Window.TheVariants.{Image}
+use Rattle.page_tables.specs.Address.{first_page, is_in}
+use Rattle.cow_pages.specs.Memory.{Memory, is_mapped}
 use Rattle.mark_bitmap.specs.Marks.{Marks, is_marked}
 
 -- how many bytes the objects have together, and the set of the addresses at which they start
@@ -53,32 +51,11 @@ pub record Places (old new : Space) (at size : ℕ) : Type 0 where
   pub fill : new.fill ≡ old.fill + size
   pub starts : (q : ℕ) → is_marked new.starts q ≡ (q == at || is_marked old.starts q)
 
--- n pages of a table were mapped, from this one on, and no other page of any table changed
-pub record MapsPages (old new : Memory) (t first n : ℕ) : Type 0 where
-  -- they were not mapped, and have zeros now, no flag, and frames that no entry had
-  pub fresh : (p : ℕ) → first ≤ p → p < first + n → is_mapped old t p ≡ false
-  pub zeros : (p : ℕ) → first ≤ p → p < first + n → MapsZeros old new t p
-  -- each of them has its frame alone
-  pub alone : (p : ℕ) → first ≤ p → p < first + n → HasOneSharer new t p
-  -- every other page is as it was, with its bytes, flag and frame
-  pub others : (u q : ℕ) → (u ≢ t) ⊎ ((q < first) ⊎ (first + n ≤ q)) → page_at new u q ≡ page_at old u q
-  pub live : (u : ℕ) → is_live new u ≡ is_live old u
-  pub reads : new.reads ≡ old.reads
-  -- at most one free frame was taken for each of them
-  pub spare : old.spare ≤ new.spare + n
-  -- and as many more frames have entries
-  pub used : used_frames new ≡ used_frames old + n
-
--- the same of a table's addresses: those of the pages are mapped now, each with the byte 0, and every other is as it was
-pub record SeesPages (old new : View) (first n : ℕ) : Type 0 where
-  pub mapped : (at : ℕ) → first ≤ page_of at → page_of at < first + n → new.mapped at ≡ true
-  pub zeros : (at : ℕ) → first ≤ page_of at → page_of at < first + n → new.byte at ≡ 0
-  pub others : (at : ℕ) → (page_of at < first) ⊎ (first + n ≤ page_of at) → (new.byte at ≡ old.byte at) × (new.mapped at ≡ old.mapped at)
-
--- no page of any table changed, and no fewer frames are free
+-- nothing changed but that more frames and leaves may be free
 pub record KeepsPages (old new : Memory) : Type 0 where
-  pub tables : new.tables ≡ old.tables
-  pub reads : new.reads ≡ old.reads
+  pub rest : new ≡ record old { frames = new.frames; leaf_count = new.leaf_count; spare = new.spare }
+  pub frames : old.frames ≤ new.frames
+  pub leaf_count : old.leaf_count ≤ new.leaf_count
   pub spare : old.spare ≤ new.spare
 
 -- the addresses of objects of these sizes, each directly behind the one before, from an address on

@@ -1,16 +1,16 @@
-ghost use Rattle.std.specs.Prelude.{◌≡◌, ◌⊎◌, ℕ, ◌+◌, ◌-◌, ◌<◌, ◌≤◌, IsTrue, IsFalse, IfOk, IfErr, Err, None};
+ghost use Rattle.std.specs.Prelude.{◌≡◌, ◌⊎◌, ℕ, ◌+◌, ◌-◌, ◌<◌, IsTrue, IsFalse, IfOk, IfErr, Err};
 ghost use Rattle.model_numbers.specs.Numbers.{image_length};
-ghost use Rattle.cow_pages.specs.declared.address.Window.TheVariants.{Image};
-ghost use Rattle.cow_pages.specs.Address.{first_page, page_count};
-ghost use Rattle.cow_pages.specs.Memory.{is_live, page_at, IsSound};
+ghost use Rattle.cow_pages.specs.Memory.{is_live, IsSound};
 ghost use Rattle.cow_pages.specs.View.{view_of, OthersSeen};
 ghost use Rattle.mark_bitmap.specs.Marks.{is_marked};
 ghost use Rattle.image_space.specs.declared.space.ImageError.{ImageError};
-ghost use Rattle.image_space.specs.Space.{pages_up_to, end_page, further_pages, IsSize, IsSpace, HasPagesUpTo, Places, MapsPages, SeesPages, KeepsPages};
+ghost use Rattle.image_space.specs.Space.{pages_up_to, end_page, further_pages, IsSize, IsSpace, HasPagesUpTo, Places, KeepsPages};
+ghost use Rattle.page_runs.specs.Runs.{MapsRun, SeesRun};
 
 use cow_pages::{Addr, Frames, PageNo, TableNo};
 use mark_bitmap::Bitmap;
 use model_numbers::{IMAGE_BASE, IMAGE_LENGTH, PAGE_BYTES};
+use page_runs::map_reserved;
 use std::alloc::{AllocError, Global};
 use std::marker::Model;
 
@@ -75,8 +75,8 @@ impl ImageSpace {
         requires live { IsTrue (is_live frames.old t.0) }
         requires pages { HasPagesUpTo frames.old t.0 self.old.fill }
         ensures places { IfOk result (λ at. Places self.old self.new at.0 size) }
-        ensures maps { IfOk result (λ _. MapsPages frames.old frames.new t.0 (end_page self.old.fill) (further_pages self.old.fill (self.old.fill + size))) }
-        ensures view { IfOk result (λ _. SeesPages (view_of frames.old t.0) (view_of frames.new t.0) (end_page self.old.fill) (further_pages self.old.fill (self.old.fill + size))) }
+        ensures maps { IfOk result (λ _. MapsRun frames.old frames.new t.0 (end_page self.old.fill) (further_pages self.old.fill (self.old.fill + size))) }
+        ensures view { IfOk result (λ _. SeesRun (view_of frames.old t.0) (view_of frames.new t.0) (end_page self.old.fill) (further_pages self.old.fill (self.old.fill + size))) }
         ensures others_seen { IfOk result (λ _. OthersSeen frames.old frames.new t.0) }
         ensures live { IsTrue (is_live frames.new t.0) }
         ensures pages { HasPagesUpTo frames.new t.0 self.new.fill }
@@ -95,9 +95,10 @@ impl ImageSpace {
         let fill = self.fill + size;
         let mapped = pages_up_to(self.fill);
         let count = pages_up_to(fill) - mapped;
+        // says that the memory is sound before, so that no more is made than is lacking
         frames.reserve(count as usize)?;
         self.starts.grow(fill)?;
-        map_pages(frames, t, FIRST_PAGE + mapped, count);
+        map_reserved(frames, t, PageNo(FIRST_PAGE + mapped), count);
         let at = Addr(IMAGE_BASE + self.fill);
         self.starts.set(at);
         self.fill = fill;
@@ -136,23 +137,4 @@ fn pages_up_to(fill: u32) -> u32
     ensures { result ≡ pages_up_to fill }
 {
     fill.div_ceil(PAGE_BYTES)
-}
-
-/// Maps `count` pages of the image window, for which as many frames are free.
-fn map_pages(frames: &mut Frames, t: TableNo, first: u32, count: u32)
-    requires live { IsTrue (is_live frames.old t.0) }
-    requires from { first_page Image ≤ first }
-    requires to { first + count ≤ first_page Image + page_count Image }
-    requires fresh { (p : ℕ) → first ≤ p → p < first + count → page_at frames.old t.0 p ≡ None }
-    requires room { count ≤ frames.old.spare }
-    requires sound { IsSound frames.old }
-    ensures maps { MapsPages frames.old frames.new t.0 first count }
-    ensures sound { IsSound frames.new }
-{
-    for i in 0..count {
-        match frames.map_zero(t, PageNo(first + i)) {
-            Ok(()) => {}
-            Err(_) => unreachable!(),
-        }
-    }
 }

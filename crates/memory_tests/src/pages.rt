@@ -1,5 +1,6 @@
 //! Pages that tables share, and writes into them.
 use cow_pages::{Addr, Frames, PageNo};
+use page_runs::{map_run, release_run};
 use std::test::Fail;
 
 const PAGE: PageNo = PageNo(0x20000);
@@ -44,5 +45,76 @@ fn reserves_and_writes(rt: HostRuntime) -> Result<(), Fail> {
     assert_eq!(rt; frames.read_u8(t, Addr(0x40000ffa)), 0x34);
     assert_eq!(rt; frames.spare(), 2);
     assert_eq!(rt; frames.immune_reads(), 0);
+    Ok(())
+}
+
+// A fork has the leaves of its table until one of both writes; the leaf goes with its last page.
+#[test]
+fn shares_leaves(rt: HostRuntime) -> Result<(), Fail> {
+    let mut frames = Frames::new(rt.alloc());
+    let t = frames.new_table()?;
+    frames.map_zero(t, PAGE)?;
+    frames.map_zero(t, PageNo(0x203ff))?;
+    frames.map_zero(t, PageNo(0x20400))?;
+    assert_eq!(rt; frames.leaves_used(), 2);
+    assert_eq!(rt; frames.leaf_of(t, PAGE), frames.leaf_of(t, PageNo(0x203ff)));
+    assert_eq!(rt; frames.leaf_of(t, PageNo(0x20001)), None);
+    frames.write_u32(t, AT, 7)?;
+    frames.settle(t);
+    let u = frames.fork_table(t)?;
+    assert_eq!(rt; frames.leaves_used(), 2);
+    assert_eq!(rt; frames.leaf_of(u, PAGE), frames.leaf_of(t, PAGE));
+    frames.write_u32(u, AT, 9)?;
+    assert_eq!(rt; frames.leaves_used(), 3);
+    assert_eq!(rt; frames.used(), 4);
+    assert_ne!(rt; frames.leaf_of(u, PAGE), frames.leaf_of(t, PAGE));
+    assert_eq!(rt; frames.read_u32(t, AT), 7);
+    assert_eq!(rt; frames.read_u32(u, AT), 9);
+    frames.release(u, PAGE);
+    assert_eq!(rt; frames.used(), 3);
+    frames.drop_table(t);
+    assert_eq!(rt; frames.leaves_used(), 2);
+    assert_eq!(rt; frames.used(), 2);
+    frames.release(u, PageNo(0x20400));
+    assert_eq!(rt; frames.leaves_used(), 1);
+    frames.map_zero(u, PageNo(0x9ffff))?;
+    assert_eq!(rt; frames.leaves_used(), 2);
+    frames.drop_table(u);
+    assert_eq!(rt; frames.leaves_used(), 0);
+    assert_eq!(rt; frames.used(), 0);
+    Ok(())
+}
+
+// Many forks of a table share its leaves and frames, and a write into one of them takes one of each.
+#[test]
+fn forks_many_times(rt: HostRuntime) -> Result<(), Fail> {
+    let mut frames = Frames::new(rt.alloc());
+    let t = frames.new_table()?;
+    for i in 0..16384 {
+        frames.map_zero(t, PageNo(0x20000 + i))?;
+    }
+    let mut last = t;
+    for _i in 0..1000 {
+        last = frames.fork_table(t)?;
+    }
+    frames.write_u8(last, AT, 1)?;
+    assert_eq!(rt; frames.read_u8(last, AT), 1);
+    assert_eq!(rt; frames.read_u8(t, AT), 0);
+    assert_eq!(rt; frames.used(), 16385);
+    assert_eq!(rt; frames.leaves_used(), 17);
+    Ok(())
+}
+
+// A run of pages over the end of a leaf, and what stays of it.
+#[test]
+fn maps_runs(rt: HostRuntime) -> Result<(), Fail> {
+    let mut frames = Frames::new(rt.alloc());
+    let t = frames.new_table()?;
+    map_run(&mut frames, t, PageNo(0x203fe), 4)?;
+    assert_eq!(rt; frames.used(), 4);
+    assert_eq!(rt; frames.leaves_used(), 2);
+    release_run(&mut frames, t, PageNo(0x203fe), 2);
+    assert_eq!(rt; frames.used(), 2);
+    assert_eq!(rt; frames.leaves_used(), 1);
     Ok(())
 }

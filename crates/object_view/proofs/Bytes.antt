@@ -10,8 +10,8 @@ use Rattle.class_layout.specs.declared.kind.FieldAt.{FieldAt}
 use Rattle.class_layout.specs.ClassList.{Class}
 use Rattle.class_layout.specs.Kinds.{kind_bytes}
 use Rattle.class_layout.specs.Placing.{IsIn}
-use Rattle.cow_pages.specs.Address.{page_of, offset_of, is_in, is_in_window}
-use Rattle.cow_pages.specs.declared.address.Window.TheVariants.{Image, Zygote, Regions, Large}
+use Rattle.page_tables.specs.Address.{page_of, offset_of, is_in, is_in_window}
+use Rattle.page_tables.specs.declared.address.Window.TheVariants.{Image, Zygote, Regions, Large}
 use Rattle.cow_pages.specs.Memory.{Memory, Page, page_at, IsSound}
 use Rattle.cow_pages.specs.View.{View, byte_at, byte_in, bytes_at, numbers_from, u16_at, u32_at, u64_at}
 use Rattle.heap_graph.specs.declared.names.Shape.{Shape}

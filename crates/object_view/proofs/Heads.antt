@@ -4,7 +4,7 @@ use Rattle.std.specs.Int.{w64, to_le_bytes}
 use Rattle.class_layout.specs.declared.kind.Kind.{Kind}
 use Rattle.class_layout.specs.declared.kind.Kind.TheVariants.{Int}
 use Rattle.class_layout.specs.ClassList.{Class}
-use Rattle.cow_pages.specs.Address.{page_of}
+use Rattle.page_tables.specs.Address.{page_of}
 use Rattle.cow_pages.specs.Memory.{Memory, IsShared}
 use Rattle.cow_pages.specs.View.{View, bytes_at, view_of, u32_at, WritesBytes}
 use Rattle.heap_graph.specs.declared.names.Shape.{Shape}

@@ -5,7 +5,7 @@ use Rattle.std.specs.List.{count_by}
 use Rattle.std.proofs.lemmas.Bool.{le-leb, leb-true, lt-ltb, ltb-true}
 use Rattle.std.proofs.lemmas.List.Sums.{sum_by-cons}
 use Rattle.model_numbers.specs.Numbers.{image_base, image_length, zygote_base, zygote_length, page_bytes}
-use Rattle.cow_pages.specs.Address.{is_immune, page_of}
+use Rattle.page_tables.specs.Address.{is_immune, page_of}
 use Rattle.cow_pages.specs.Change.{reads_after}
 use Rattle.object_view.specs.Changes.{reads_after_all}
 use Rattle.object_view.specs.Seen.{is_in_window, RoseBy}

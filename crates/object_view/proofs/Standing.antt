@@ -3,7 +3,7 @@ use Rattle.std.proofs.Common.{cond, false, map, length-append, slice_get, â—Œ++â
 use Rattle.std.specs.List.{AllByRecursion}
 use Rattle.std.proofs.lemmas.Bool.{eq-eqb, ne_eqb}
 use Rattle.class_layout.specs.Placing.{IsIn}
-use Rattle.cow_pages.specs.declared.address.Addr.{Addr}
+use Rattle.page_tables.specs.declared.address.Addr.{Addr}
 use Rattle.object_view.specs.declared.names.Header.TheVariants.{Forward}
 use Rattle.class_layout.specs.declared.kind.Kind.{Kind}
 use Rattle.class_layout.specs.declared.kind.Kind.TheVariants.{Int}

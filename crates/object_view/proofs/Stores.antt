@@ -18,7 +18,7 @@ use Rattle.object_view.specs.Objects.{IsPlace, Stands}
 use lib.IntN.{negsuc, nat_abs}
 use Rattle.class_layout.specs.declared.kind.Kind.TheVariants.{Ref, Boolean, Byte, Char, Short, Int, Long}
 use Rattle.class_layout.specs.Kinds.{kind_bytes}
-use Rattle.cow_pages.specs.Address.{page_of}
+use Rattle.page_tables.specs.Address.{page_of}
 use Rattle.cow_pages.specs.Memory.{Memory, HasOneSharer, IsShared, IsSound}
 use Rattle.cow_pages.specs.Change.{TakesOnCopy, WritesPage}
 use Rattle.cow_pages.specs.View.{View, view_of, WritesBytes}

@@ -2,7 +2,7 @@
 ghost use Rattle.std.specs.Prelude.{◌≡◌, ◌⊎◌, ℕ, ◌+◌, ◌*◌, ◌/◌, ◌%◌, ◌^◌, ◌<◌, ◌≤◌, [], ◌++◌, Option, None, Some, option_map, IsTrue, IsOk, IfOk, IsSomeAnd, OnOk, OnErr, ℤ, List};
 ghost use Rattle.class_layout.specs.declared.kind.FieldAt.{FieldAt};
 ghost use Rattle.class_layout.specs.ClassList.{Class};
-ghost use Rattle.cow_pages.specs.Address.{page_of};
+ghost use Rattle.page_tables.specs.Address.{page_of};
 ghost use Rattle.cow_pages.specs.Memory.{is_mapped, IsShared, IsSound, Memory};
 ghost use Rattle.cow_pages.specs.View.{byte_at, view_of, OthersSeen, WritesBytes};
 ghost use Rattle.std.specs.Int.{w64, to_le_bytes};

@@ -3,7 +3,7 @@ ghost use Rattle.std.specs.Prelude.{◌≡◌, ◌⊎◌, ◌≢◌, ℕ, ◌+�
 ghost use Rattle.class_layout.specs.declared.kind.FieldAt.{FieldAt};
 ghost use Rattle.class_layout.specs.ClassList.{Class};
 ghost use Rattle.class_layout.specs.Kinds.{kind_bytes};
-ghost use Rattle.cow_pages.specs.Address.{page_of};
+ghost use Rattle.page_tables.specs.Address.{page_of};
 ghost use Rattle.cow_pages.specs.Memory.{is_mapped, HasOneSharer, IsShared, IsSound};
 ghost use Rattle.cow_pages.specs.Change.{reads_after, TakesOnCopy};
 ghost use Rattle.cow_pages.specs.View.{view_of, OthersSeen};

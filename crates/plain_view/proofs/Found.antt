@@ -7,7 +7,7 @@ use Rattle.std.proofs.lemmas.Bool.{eqb-true, eq-eqb, ltb-true, ltb-false}
 use Rattle.std.proofs.lemmas.List.{get_or_default, length-map}
 use Rattle.std.proofs.lemmas.Option.{same_Some, none-some}
 use Rattle.class_layout.specs.Placing.{IsIn}
-use Rattle.cow_pages.specs.declared.address.Addr.{Addr}
+use Rattle.page_tables.specs.declared.address.Addr.{Addr}
 use Rattle.heap_graph.specs.Graph.{Graph, Object, object_at}
 use Rattle.heap_graph.specs.Table.{Fits}
 use Rattle.heap_graph.specs.Formed.{IsFormed}

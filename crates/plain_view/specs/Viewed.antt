@@ -1,7 +1,7 @@
 -- What a view of a plain graph is.
 use Rattle.std.specs.Prelude.{ℕ, Option}
 use Rattle.std.specs.Option.{option_map}
-use Rattle.cow_pages.specs.declared.address.Addr.{Addr}
+use Rattle.page_tables.specs.declared.address.Addr.{Addr}
 use Rattle.heap_graph.specs.Graph.{Graph, object_at}
 use Rattle.address_table.specs.Computed.{first_homes, table_of}
 

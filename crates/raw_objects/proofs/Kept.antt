@@ -4,7 +4,7 @@ use Rattle.std.specs.Prelude.{is_some, option_map, Result, OnOk, OnErr}
 use Rattle.std.proofs.lemmas.Bool.{cases_eq, cases_lt, lt-ltb, true≢false}
 use Rattle.std.proofs.lemmas.Result.{on_err_weaker, on_ok_weaker}
 use Rattle.class_layout.specs.declared.kind.Kind.{Kind}
-use Rattle.cow_pages.specs.Address.{page_of}
+use Rattle.page_tables.specs.Address.{page_of}
 use Rattle.cow_pages.specs.Memory.{Memory, Page, frame_at, is_mapped, is_written, page_at, HasOneSharer, IsFree, IsSound}
 use Rattle.cow_pages.specs.View.{view_of}
 use Rattle.object_view.specs.Changes.{pages_in, AreWritten, ChangesPages, PutsNumber, WritesWords}

@@ -3,11 +3,11 @@ use Rattle.std.proofs.Common.{◌≡◌, ◌∙◌, ℕ, ◌+◌, ◌≤◌, tru
 use Rattle.std.specs.Prelude.{◌||◌, min, ◌^◌, ◌-◌, option_map}
 use Rattle.std.proofs.lemmas.Option.{none-some, same_Some}
 use Rattle.std.proofs.lemmas.Bool.{and_parts, and_right, le-ltb, leb-true}
-use Rattle.cow_pages.specs.declared.address.Window.TheVariants.{Zygote}
+use Rattle.page_tables.specs.declared.address.Window.TheVariants.{Zygote}
 use Rattle.class_layout.specs.declared.kind.FieldAt.{FieldAt}
 use Rattle.cow_pages.specs.View.{View}
 use Rattle.object_view.specs.Objects.{slot_at}
-use Rattle.cow_pages.specs.Address.{is_immune, is_in, page_of}
+use Rattle.page_tables.specs.Address.{is_immune, is_in, page_of}
 use Rattle.heap_graph.specs.declared.names.Shape.{Shape}
 use Rattle.heap_graph.specs.declared.names.Shape.TheVariants.{Instance, Array}
 use Rattle.object_view.specs.declared.names.Slot.{Slot}

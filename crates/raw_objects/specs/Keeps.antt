@@ -1,6 +1,6 @@
 -- Which pages a step may change, and what it leaves of them. It reaches over any number of steps.
 use Rattle.std.specs.Prelude.{◌≡◌, ◌≢◌, ◌⊎◌, ℕ, ◌+◌, ◌<◌, ◌≤◌, Bool, true, false, IsTrue}
-use Rattle.cow_pages.specs.Address.{page_of}
+use Rattle.page_tables.specs.Address.{page_of}
 use Rattle.cow_pages.specs.Memory.{Memory, frame_at, is_live, is_mapped, is_written, page_at, HasOneSharer}
 use Rattle.object_view.specs.Changes.{pages_in}
 

@@ -5,8 +5,8 @@ use Rattle.class_layout.specs.declared.kind.FieldAt.{FieldAt}
 use Rattle.class_layout.specs.ClassList.{Class}
 use Rattle.class_layout.specs.Kinds.{is_ref}
 use Rattle.class_layout.specs.Placing.{IsIn}
-use Rattle.cow_pages.specs.declared.address.Window.TheVariants.{Regions}
-use Rattle.cow_pages.specs.Address.{page_of, is_in}
+use Rattle.page_tables.specs.declared.address.Window.TheVariants.{Regions}
+use Rattle.page_tables.specs.Address.{page_of, is_in}
 use Rattle.cow_pages.specs.View.{View}
 use Rattle.heap_graph.specs.declared.names.Shape.{Shape}
 use Rattle.object_view.specs.declared.names.Header.{Header}

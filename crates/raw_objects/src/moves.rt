@@ -1,7 +1,7 @@
 //! Objects that move, and the references to them.
 ghost use Rattle.std.specs.Prelude.{◌≡◌, ◌⊎◌, ◌||◌, ℕ, ◌+◌, ◌/◌, ◌%◌, ◌<◌, ◌≤◌, Bool, true, false, nat_eq, IsTrue, IsOk, OnOk, OnErr, List};
 ghost use Rattle.class_layout.specs.ClassList.{Class};
-ghost use Rattle.cow_pages.specs.Address.{page_of};
+ghost use Rattle.page_tables.specs.Address.{page_of};
 ghost use Rattle.cow_pages.specs.Memory.{is_mapped, HasOneSharer, IsSound};
 ghost use Rattle.cow_pages.specs.View.{view_of};
 ghost use Rattle.object_view.specs.Changes.{pages_in, reads_after_all, steps_from, AreAlone};

@@ -1,7 +1,7 @@
 //! Pages beside the objects.
 ghost use Rattle.std.specs.Prelude.{◌≡◌, ℕ, Bool, None, IsTrue, OnOk, OnErr, List};
 ghost use Rattle.class_layout.specs.ClassList.{Class};
-ghost use Rattle.cow_pages.specs.Address.{is_in_window};
+ghost use Rattle.page_tables.specs.Address.{is_in_window};
 ghost use Rattle.cow_pages.specs.Memory.{is_live, is_mapped, page_at, HasOneSharer, IsSound};
 ghost use Rattle.cow_pages.specs.Change.{ChangesPage};
 ghost use Rattle.cow_pages.specs.View.{view_of, MapsPage, UnmapsPage};

@@ -4,7 +4,7 @@ ghost use Rattle.model_numbers.specs.Numbers.{number_limit};
 ghost use Rattle.class_layout.specs.declared.kind.FieldAt.{FieldAt};
 ghost use Rattle.class_layout.specs.ClassList.{Class};
 ghost use Rattle.class_layout.specs.Kinds.{kind_bytes};
-ghost use Rattle.cow_pages.specs.Address.{page_of};
+ghost use Rattle.page_tables.specs.Address.{page_of};
 ghost use Rattle.cow_pages.specs.Memory.{is_mapped, HasOneSharer, IsShared, IsSound};
 ghost use Rattle.cow_pages.specs.View.{view_of};
 ghost use Rattle.heap_graph.specs.Sizes.{size_in};

@@ -5,7 +5,7 @@ use Rattle.std.specs.Int.{w32, to_le_bytes}
 use Rattle.std.proofs.lemmas.Bool.{cases_eq, cases_lt, cases_Bool, or_cases, eqb-true, or_left, or_right, or_parts}
 use Rattle.std.proofs.lemmas.List.Folds.{list_any-append}
 use Rattle.model_numbers.specs.Numbers.{page_bytes}
-use Rattle.cow_pages.specs.Address.{page_of}
+use Rattle.page_tables.specs.Address.{page_of}
 use Rattle.cow_pages.specs.Memory.{Memory, Page, page_at, frame_at, is_mapped, is_written, flag_of, HasOneSharer, IsShared, IsFree, IsSound}
 use Rattle.cow_pages.specs.Change.{TakesOnCopy, WritesPage}
 use Rattle.cow_pages.specs.View.{View, view_of, OthersSeen, WritesBytes}

@@ -11,8 +11,8 @@ use Rattle.std.proofs.lemmas.Map.Keys.{apart_from_distinct}
 use Rattle.std.proofs.lemmas.Map.Steps.{length-le_from_distinct_below}
 use Rattle.std.proofs.lemmas.Map.Views.{Contains-from_any}
 use Rattle.std.proofs.Math.Seq.{take-suc}
-use Rattle.cow_pages.specs.declared.address.Addr.{Addr}
-use Rattle.cow_pages.specs.Address.{page_of}
+use Rattle.page_tables.specs.declared.address.Addr.{Addr}
+use Rattle.page_tables.specs.Address.{page_of}
 use Rattle.cow_pages.specs.Memory.{Memory, is_mapped, HasOneSharer, IsShared, IsSound}
 use Rattle.cow_pages.specs.Change.{reads_after}
 use Rattle.cow_pages.specs.View.{View, view_of, u32_at}

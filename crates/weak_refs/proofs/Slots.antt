@@ -5,7 +5,7 @@ use Rattle.std.specs.List.{list_any, filter, All}
 use Rattle.std.proofs.lemmas.Bool.{cases_eq, cases_lt, lt-ltb, le-ltb, le-leb, lt-leb, ne_eqb, and_right, or_left, or_right}
 use Rattle.std.proofs.lemmas.List.Folds.{list_any-append}
 use Rattle.class_layout.specs.declared.kind.Kind.TheVariants.{Ref}
-use Rattle.cow_pages.specs.Address.{page_of}
+use Rattle.page_tables.specs.Address.{page_of}
 use Rattle.cow_pages.specs.View.{View, u32_at}
 use Rattle.object_view.proofs.Numbers.{number-same, number-zero}
 use Rattle.weak_refs.specs.Weak.{is_byte_of, is_page_of, shared_pages}

@@ -1,8 +1,8 @@
 -- Which references are dead, and what it is to clear them.
 use Rattle.std.specs.Prelude.{◌≡◌, ◌≢◌, ◌⊎◌, ℕ, ◌+◌, ◌%◌, ◌≤◌, ◌==◌, Bool, true, false, not, ◌&&◌, ◌||◌, nat_le, nat_lt, nat_eq, if◌then◌else◌, List, [], ◌∷◌, map, Some, IsTrue}
 use Rattle.std.specs.List.{list_any, filter, All, IsDistinct}
-use Rattle.cow_pages.specs.declared.address.Addr.{Addr}
-use Rattle.cow_pages.specs.Address.{page_of}
+use Rattle.page_tables.specs.declared.address.Addr.{Addr}
+use Rattle.page_tables.specs.Address.{page_of}
 use Rattle.cow_pages.specs.Memory.{Memory, page_at, frame_at, is_live, is_written, HasOneSharer, IsShared, IsFree}
 use Rattle.cow_pages.specs.Change.{KeepsRoom}
 use Rattle.cow_pages.specs.View.{View, view_of, u32_at, SameView}

@@ -1,6 +1,6 @@
 //! Clears the references whose targets are not kept.
 ghost use Rattle.std.specs.Prelude.{◌≡◌, ℕ, ◌+◌, ◌<◌, ◌%◌, Bool, true, List, [], ◌∷◌, length, take, IsTrue, IsOk, IfOk, OnOk, OnErr};
-ghost use Rattle.cow_pages.specs.Address.{page_of};
+ghost use Rattle.page_tables.specs.Address.{page_of};
 ghost use Rattle.cow_pages.specs.Memory.{is_live, is_mapped, HasOneSharer, IsShared, IsSound};
 ghost use Rattle.cow_pages.specs.Change.{reads_after};
 ghost use Rattle.cow_pages.specs.View.{view_of, OthersSeen};

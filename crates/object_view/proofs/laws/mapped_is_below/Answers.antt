@@ -1,5 +1,5 @@
 use Rattle.std.proofs.Common.{◌<◌, arith}
-use Rattle.cow_pages.specs.Address.{page_of}
+use Rattle.page_tables.specs.Address.{page_of}
 use Rattle.object_view.proofs.Bytes.{window-below}
 use Rattle.object_view.proofs.laws.mapped_is_below.Goals as goal
 

@@ -1,6 +1,6 @@
 use Rattle.std.proofs.Common.{rules, ◌≡◌, ◌∙◌, ◌+◌, ◌<◌, ◌^◌, IsTrue, sym, ap, subst}
 use Rattle.std.specs.Prelude.{option_map}
-use Rattle.cow_pages.specs.Address.{page_of}
+use Rattle.page_tables.specs.Address.{page_of}
 use Rattle.cow_pages.specs.Memory.{Memory, is_mapped}
 use Rattle.cow_pages.specs.View.{u32_at, view_of}
 use Rattle.heap_graph.specs.declared.names.Shape.{Shape}

@@ -1,6 +1,6 @@
 use Rattle.std.proofs.Common.{◌≡◌, ◌+◌, ◌*◌, subst, arith}
 use Rattle.std.specs.Int.{w64, to_le_bytes}
-use Rattle.cow_pages.specs.Address.{page_of}
+use Rattle.page_tables.specs.Address.{page_of}
 use Rattle.cow_pages.specs.Memory.{Memory}
 use Rattle.cow_pages.specs.Change.{TakesOnCopy, WritesPage}
 use Rattle.object_view.specs.Changes.{WritesSpan}

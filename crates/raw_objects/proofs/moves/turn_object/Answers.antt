@@ -1,7 +1,7 @@
 use Rattle.std.proofs.Common.{◌≡◌, ◌∙◌, ◌+◌, ◌<◌, ◌≤◌, ◌-◌, ◌^◌, ℕ, true, refl, sym, ap, subst, arith}
 use Rattle.std.specs.Prelude.{is_ok, IsOk, ◌||◌}
 use Rattle.std.proofs.lemmas.Bool.{true≢false}
-use Rattle.cow_pages.specs.Address.{page_of}
+use Rattle.page_tables.specs.Address.{page_of}
 use Rattle.cow_pages.specs.Memory.{Memory}
 use Rattle.cow_pages.specs.View.{view_of}
 use Rattle.object_view.specs.Changes.{pages_in}

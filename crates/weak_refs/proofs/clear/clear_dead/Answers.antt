@@ -1,5 +1,5 @@
 use Rattle.std.proofs.Common.{rules, ◌≡◌, ◌∙◌, ◌+◌, ◌%◌, ◌^◌, ◌<◌, true, false, [], ◌∷◌, length, take, get_or, IsTrue, sym, ap, subst, arith}
-use Rattle.cow_pages.specs.Address.{page_of}
+use Rattle.page_tables.specs.Address.{page_of}
 use Rattle.cow_pages.specs.Memory.{is_mapped, IsShared}
 use Rattle.cow_pages.specs.Change.{reads_after}
 use Rattle.cow_pages.specs.View.{view_of}

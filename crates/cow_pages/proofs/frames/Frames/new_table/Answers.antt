@@ -1,5 +1,5 @@
 use Rattle.std.proofs.Common.{ap, is_some}
-use Rattle.cow_pages.specs.Address.{page_of}
+use Rattle.page_tables.specs.Address.{page_of}
 use Rattle.cow_pages.proofs.SoundLemmas.{sound}
 use Rattle.cow_pages.proofs.RoomLemmas.{on_err}
 use Rattle.cow_pages.proofs.ViewLemmas.{OthersSeen-table}
@@ -9,7 +9,7 @@ pub new_table-requires : goal.new_table-requires
 new_table-requires c = c.self.invariant
 
 pub invariant_of-self : goal.invariant_of-self
-invariant_of-self c = c.new_table.ensures.kept
+invariant_of-self c = c.new_table.ensures.store
 
 pub returns-clause-fresh : goal.returns-clause-fresh
 returns-clause-fresh c = rw (← c.self.view_is) c.in_ok-new_table.ensures.fresh
@@ -33,13 +33,22 @@ pub returns-clause-room : goal.returns-clause-room
 returns-clause-room c = rw (← c.self.view_is) c.new_table.ensures.room
 
 pub returns-clause-sound : goal.returns-clause-sound
-returns-clause-sound c = sound _ c.new_table.ensures.kept
+returns-clause-sound c = sound _ c.new_table.ensures.store
 
 pub returns-in_err-new_table-clause-room : goal.returns-in_err-new_table-clause-room
 returns-in_err-new_table-clause-room c = rw (← c.self.view_is) c.new_table.ensures.room
 
 pub returns-in_err-new_table-clause-sound : goal.returns-in_err-new_table-clause-sound
-returns-in_err-new_table-clause-sound c = sound _ c.new_table.ensures.kept
+returns-in_err-new_table-clause-sound c = sound _ c.new_table.ensures.store
 
 pub returns-in_err-new_table-clause-err : goal.returns-in_err-new_table-clause-err
 returns-in_err-new_table-clause-err c = rw (← c.self.view_is) (on_err _ c.in_err-new_table.ensures.err)
+
+pub returns-clause-leaves : goal.returns-clause-leaves
+returns-clause-leaves c = rw (← c.self.view_is) c.in_ok-new_table.ensures.leaves
+
+pub returns-clause-used : goal.returns-clause-used
+returns-clause-used c = rw (← c.self.view_is) c.new_table.ensures.used
+
+pub returns-in_err-new_table-clause-used : goal.returns-in_err-new_table-clause-used
+returns-in_err-new_table-clause-used c = rw (← c.self.view_is) c.new_table.ensures.used

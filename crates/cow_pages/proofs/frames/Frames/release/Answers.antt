@@ -3,10 +3,10 @@ use Rattle.cow_pages.proofs.ViewLemmas.{OthersSeen-page, UnmapsPage-none}
 use Rattle.cow_pages.proofs.frames.Frames.release.Goals as goal
 
 pub release-requires : goal.release-requires
-release-requires c = record { kept = c.self.invariant; mapped = rw (← c.self.view_is) at c.requires.mapped }
+release-requires c = record { store = c.self.invariant; mapped = rw (← c.self.view_is) at c.requires.mapped; alone = rw (← c.self.view_is) at c.requires.alone }
 
 pub invariant_of-self : goal.invariant_of-self
-invariant_of-self c = c.release.ensures.kept
+invariant_of-self c = c.release.ensures.store
 
 pub returns-clause-rest : goal.returns-clause-rest
 returns-clause-rest c = rw (← c.self.view_is) c.release.ensures.rest
@@ -21,7 +21,10 @@ pub returns-clause-room : goal.returns-clause-room
 returns-clause-room c = rw (← c.self.view_is) c.release.ensures.room
 
 pub returns-clause-sound : goal.returns-clause-sound
-returns-clause-sound c = sound _ c.release.ensures.kept
+returns-clause-sound c = sound _ c.release.ensures.store
 
 pub returns-clause-freed : goal.returns-clause-freed
-returns-clause-freed c = rw (← c.self.view_is) (c.release.ensures.freed (rw (← c.self.view_is) at c.requires.alone))
+returns-clause-freed c = rw (← c.self.view_is) c.release.ensures.freed
+
+pub returns-clause-leaf : goal.returns-clause-leaf
+returns-clause-leaf c = rw (← c.self.view_is) c.release.ensures.leaf

@@ -17,7 +17,7 @@ pub write-requires-clause-room : goal.write-requires-clause-room
 write-requires-clause-room c = let len : length c.to_le_bytes.result ≡ 4 = ap length c.to_le_bytes.ensures in omega (arith, len, c.requires.aligned)
 
 pub invariant_of-self : goal.invariant_of-self
-invariant_of-self c = c.write.ensures.kept
+invariant_of-self c = c.write.ensures.store
 
 pub returns : goal.returns
 unfolding u32_at
@@ -29,8 +29,9 @@ returns c =
       others_seen = rw (← c.self.view_is) (on_ok_weaker _ (λ (w : WritesPage (shown c.self.inside.store) (shown c.write.new.self) c.args.t.0 c.args.at.0 (to_le_bytes w32 c.args.v)). OthersSeen-page _ _ _ _ w.rest) page);
       reads_back = on_ok_weaker _ (λ w. ap (from_le_bytes w32) (WritesBytes-page (shown c.self.inside.store) (shown c.write.new.self) c.args.t.0 c.args.at.0 (to_le_bytes w32 c.args.v) (sound c.self.inside.store c.self.invariant) (omega (arith, c.requires.aligned)) w).there ∙ from_le_bytes-to_le_bytes_4 c.args.v c.ranges.v.fits) page;
       takes = search rules;
+      leaf = search rules;
       succeeds = search rules;
       only = search rules;
       err = search rules;
-      sound = sound _ c.write.ensures.kept;
+      sound = sound _ c.write.ensures.store;
     }

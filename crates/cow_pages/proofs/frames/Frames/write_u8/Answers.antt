@@ -10,7 +10,7 @@ pub write-requires-clause-mapped : goal.write-requires-clause-mapped
 write-requires-clause-mapped c = rw (← c.self.view_is) at c.requires
 
 pub invariant_of-self : goal.invariant_of-self
-invariant_of-self c = c.write.ensures.kept
+invariant_of-self c = c.write.ensures.store
 
 pub returns-clause-page : goal.returns-clause-page
 returns-clause-page c =
@@ -28,8 +28,11 @@ returns-clause-others_seen c =
     rw (← c.self.view_is) (on_ok_weaker _ (λ (w : WritesPage (shown c.self.inside.store) (shown c.write.new.self) c.args.t.0 c.args.at.0 (c.args.v ∷ [])). OthersSeen-page _ _ _ _ w.rest) page)
 
 pub returns-clause-sound : goal.returns-clause-sound
-returns-clause-sound c = sound _ c.write.ensures.kept
+returns-clause-sound c = sound _ c.write.ensures.store
 
 pub returns-clause-reads_back : goal.returns-clause-reads_back
 returns-clause-reads_back c =
     on_ok_weaker _ (λ (w : WritesPage (shown c.self.inside.store) (shown c.write.new.self) c.args.t.0 c.args.at.0 (c.args.v ∷ [])). one_byte (shown c.write.new.self) c.args.t.0 c.args.at.0 c.args.v (WritesBytes-page (shown c.self.inside.store) (shown c.write.new.self) c.args.t.0 c.args.at.0 (c.args.v ∷ []) (sound c.self.inside.store c.self.invariant) (omega arith) w).there) c.write.ensures.page
+
+pub returns-clause-leaf : goal.returns-clause-leaf
+returns-clause-leaf c = rw (← c.self.view_is) c.write.ensures.leaf

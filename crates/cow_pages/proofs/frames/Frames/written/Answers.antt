@@ -1,22 +1,16 @@
 use Rattle.std.proofs.Common.{sym, ◌∙◌, ap}
+use Rattle.std.specs.Prelude.{option_map}
 use Rattle.cow_pages.specs.Memory.{flag_of}
-use Rattle.cow_pages.proofs.PlaceLemmas.{place_found}
-use Rattle.cow_pages.proofs.ReadLemmas.{page_at-entry, page_at-none}
+use Rattle.cow_pages.specs.Store.{page_of_entry}
+use Rattle.cow_pages.proofs.ShownLemmas.{page_at-shown}
 use Rattle.cow_pages.proofs.frames.Frames.written.Goals as goal
 
-pub entry-requires : goal.entry-requires
-entry-requires c =
-    let live = rw (← c.self.view_is) at c.requires in
-    record { kept = c.self.invariant; live = live; place = (place_found c.args.page.0 c.in-Some.place (sym c.place_of.ensures ∙ c.in-Some.is)).1 }
-
-pub returns-in-Some-entry : goal.returns-in-Some-entry
-returns-in-Some-entry c =
-    rw (← c.self.view_is) (sym (ap flag_of (page_at-entry c.self.inside.store c.args.t.0 c.args.page.0 c.in-Some.place _ (sym c.place_of.ensures ∙ c.in-Some.is) (sym c.entry.ensures ∙ c.in-Some-entry.is))))
-
-pub returns-in-None-entry : goal.returns-in-None-entry
-returns-in-None-entry c =
-    rw (← c.self.view_is) (sym (ap flag_of (page_at-entry c.self.inside.store c.args.t.0 c.args.page.0 c.in-Some.place _ (sym c.place_of.ensures ∙ c.in-Some.is) (sym c.entry.ensures ∙ c.in-None-entry.is))))
+pub returns-in-Some : goal.returns-in-Some
+returns-in-Some c =
+    let s = c.self.inside.store in
+    rw (← c.self.view_is) (sym (ap flag_of (page_at-shown s c.self.invariant.kept c.args.t.0 c.args.page.0 ∙ ap (option_map (page_of_entry s)) (sym c.entry.ensures ∙ c.in-Some.is))))
 
 pub returns-in-None : goal.returns-in-None
 returns-in-None c =
-    rw (← c.self.view_is) (sym (ap flag_of (page_at-none c.self.inside.store c.self.invariant c.args.t.0 c.args.page.0 (sym c.place_of.ensures ∙ c.in-None.is))))
+    let s = c.self.inside.store in
+    rw (← c.self.view_is) (sym (ap flag_of (page_at-shown s c.self.invariant.kept c.args.t.0 c.args.page.0 ∙ ap (option_map (page_of_entry s)) (sym c.entry.ensures ∙ c.in-None.is))))

@@ -1,97 +1,112 @@
-use Rattle.std.proofs.Common.{◌≡◌, ◌+◌, ◌<◌, ◌∙◌, ◌∷◌, [], sym, ap, subst, Some, arith, length, ◌≤◌, inl, inr, true≢false}
+use Rattle.std.proofs.Common.{rules, ◌≡◌, ◌≤◌, ◌/◌, ◌%◌, ◌-◌, [], length, get_or, set, Some, true≢false, sym, ap, subst, ◌∙◌, inl, inr, arith}
 use Rattle.std.specs.Prelude.{is_ok}
 use Rattle.std.proofs.lemmas.Bool.{cases_lt}
-use Rattle.cow_pages.specs.declared.pool.Pool.{Pool}
-use Rattle.cow_pages.specs.declared.table.Entry.{Entry}
-use Rattle.cow_pages.specs.Pool.{sharers_of, bytes_of, IsPool, Shares, SetsBytes}
-use Rattle.cow_pages.specs.Tables.{SetsEntry}
 use Rattle.cow_pages.specs.Memory.{IsShared}
-use Rattle.cow_pages.specs.Place.{page_number}
-use Rattle.cow_pages.specs.Store.{OwnsPage, shown}
-use Rattle.cow_pages.proofs.KeptLemmas.{held}
-use Rattle.cow_pages.proofs.ChangeLemmas.{copied_page, live-there, live-entry, one_from, IsShared-entry}
-use Rattle.cow_pages.proofs.RoomLemmas.{OwnsPage-room, TakesFrame-room, TakesOne-room, on_err}
+use Rattle.page_tables.specs.declared.leaf.Entry.{Entry}
+use Rattle.cow_pages.specs.declared.store.Store.{Store}
+use Rattle.cow_pages.specs.Store.{leaf_grid, shown, spare_of, CountsSlots}
+use Rattle.cow_pages.specs.Steps.{OwnsEntry}
+use Rattle.page_tables.proofs.WindowLemmas.{window_below}
+use Rattle.cow_pages.proofs.SharedLemmas.{leaf_length, stands}
+use Rattle.cow_pages.proofs.SoundLemmas.{leaf_there, entry_within}
+use Rattle.cow_pages.proofs.SeenLemmas.{live-shown}
+use Rattle.cow_pages.proofs.ReadLemmas.{live_there, place_live}
+use Rattle.cow_pages.proofs.RoomLemmas.{on_err}
+use Rattle.cow_pages.proofs.SlotLemmas.{shared_flag}
+use Rattle.cow_pages.proofs.CopyLemmas.{reserved_live, copied_more, copied_page, copied_entry}
 use Rattle.cow_pages.proofs.store.Store.copy.Goals as goal
 
-pub take_copy-number-requires-clause-within : goal.take_copy-number-requires-clause-within
-take_copy-number-requires-clause-within c = omega (arith, c.requires.kept.in_range c.args.t.0 c.args.place c.args.entry c.requires.there, c.in_ok-reserve.ensures.made.frames.len)
-
-pub take_copy-number-requires-clause-shared : goal.take_copy-number-requires-clause-shared
-take_copy-number-requires-clause-shared c = omega (arith, held c.args.self.now c.requires.kept c.args.t.0 c.args.place c.args.entry c.requires.there, c.in_ok-reserve.ensures.made.frames.sharers c.args.entry.frame)
-
-pub set_entry-requires-clause-live : goal.set_entry-requires-clause-live
-set_entry-requires-clause-live c = rw c.in_ok-reserve.ensures.tables (live-there _ c.args.self.now c.args.t.0 (live-entry c.args.self.now c.args.t.0 c.args.place c.args.entry c.requires.there))
-
-pub returns-clause-kept : goal.returns-clause-kept
-returns-clause-kept c =
+pub own_leaf-leaf-requires : goal.own_leaf-leaf-requires
+own_leaf-leaf-requires c =
     let s = c.args.self.now in
-    let e = c.args.entry in
-    let s1 = c.reserve.new.self in
-    let new = c.set_entry.new.self in
-    let taken = c.take_copy-number in
-    let room = c.in_ok-reserve.ensures.made in
-    let tables = c.in_ok-reserve.ensures.tables in
-    let within = c.requires.kept.in_range c.args.t.0 c.args.place e c.requires.there in
-    let pool : new.pool ≡ taken.new.self = c.set_entry.ensures.pool in
-    let m = copied_page s1 new c.args.t.0 c.args.place taken.result e c.in_ok-reserve.ensures.kept
-    (rw tables c.requires.there) (λ one. c.requires.shared (sym (room.frames.sharers e.frame) ∙ one)) (subst IsPool (sym pool) taken.ensures.pool) taken.ensures.free
-    (subst (λ (p : Pool). Shares s1.pool.frames.items p.frames.items (taken.result ∷ []) (e.frame ∷ [])) (sym pool) taken.ensures.shares)
-    (subst (λ (p : Pool). SetsBytes s1.pool.frames.items p.frames.items taken.result (bytes_of s1.pool.frames.items e.frame)) (sym pool) taken.ensures.bytes)
-    (subst (λ (it : Entry). SetsEntry s1.tables.items new.tables.items c.args.t.0 c.args.place (Some it)) c.new-own.ensures c.set_entry.ensures.entry)
-    c.set_entry.ensures.reads in
-    m.kept
-
-pub returns-clause-owns : goal.returns-clause-owns
-returns-clause-owns c =
-    let s = c.args.self.now in
-    let e = c.args.entry in
-    let s1 = c.reserve.new.self in
-    let new = c.set_entry.new.self in
-    let taken = c.take_copy-number in
-    let room = c.in_ok-reserve.ensures.made in
-    let tables = c.in_ok-reserve.ensures.tables in
-    let within = c.requires.kept.in_range c.args.t.0 c.args.place e c.requires.there in
-    let pool : new.pool ≡ taken.new.self = c.set_entry.ensures.pool in
-    let m = copied_page s1 new c.args.t.0 c.args.place taken.result e c.in_ok-reserve.ensures.kept
-    (rw tables c.requires.there) (λ one. c.requires.shared (sym (room.frames.sharers e.frame) ∙ one)) (subst IsPool (sym pool) taken.ensures.pool) taken.ensures.free
-    (subst (λ (p : Pool). Shares s1.pool.frames.items p.frames.items (taken.result ∷ []) (e.frame ∷ [])) (sym pool) taken.ensures.shares)
-    (subst (λ (p : Pool). SetsBytes s1.pool.frames.items p.frames.items taken.result (bytes_of s1.pool.frames.items e.frame)) (sym pool) taken.ensures.bytes)
-    (subst (λ (it : Entry). SetsEntry s1.tables.items new.tables.items c.args.t.0 c.args.place (Some it)) c.new-own.ensures c.set_entry.ensures.entry)
-    c.set_entry.ensures.reads in
-    subst (λ (own : Entry). OwnsPage s new c.args.t.0 c.args.place e own) (sym c.new-own.ensures) (OwnsPage-room s s1 new _ c.args.t.0 c.args.place e _ room within m.owns)
-
-pub returns-clause-takes : goal.returns-clause-takes
-returns-clause-takes c =
-    let s = c.args.self.now in
-    let e = c.args.entry in
-    let s1 = c.reserve.new.self in
-    let new = c.set_entry.new.self in
-    let taken = c.take_copy-number in
-    let room = c.in_ok-reserve.ensures.made in
-    let tables = c.in_ok-reserve.ensures.tables in
-    let within = c.requires.kept.in_range c.args.t.0 c.args.place e c.requires.there in
-    let pool : new.pool ≡ taken.new.self = c.set_entry.ensures.pool in
-    let m = copied_page s1 new c.args.t.0 c.args.place taken.result e c.in_ok-reserve.ensures.kept
-    (rw tables c.requires.there) (λ one. c.requires.shared (sym (room.frames.sharers e.frame) ∙ one)) (subst IsPool (sym pool) taken.ensures.pool) taken.ensures.free
-    (subst (λ (p : Pool). Shares s1.pool.frames.items p.frames.items (taken.result ∷ []) (e.frame ∷ [])) (sym pool) taken.ensures.shares)
-    (subst (λ (p : Pool). SetsBytes s1.pool.frames.items p.frames.items taken.result (bytes_of s1.pool.frames.items e.frame)) (sym pool) taken.ensures.bytes)
-    (subst (λ (it : Entry). SetsEntry s1.tables.items new.tables.items c.args.t.0 c.args.place (Some it)) c.new-own.ensures c.set_entry.ensures.entry)
-    c.set_entry.ensures.reads in
-    let many : 1 < sharers_of s1.pool.frames.items e.frame = omega (arith, held s c.requires.kept c.args.t.0 c.args.place e c.requires.there, room.frames.sharers e.frame, c.requires.shared) in
+    let m0 = c.reserve.new.self in
+    let st = stands s c.args.t c.args.page c.args.entry c.requires.there in
+    let live = live-shown s s.tables.items c.args.t ∙ place_live s c.args.t (c.args.page / 1024) st.leaf st.place in
     record {
-      copied = TakesFrame-room s s1 new room (ap (λ (p : Pool). length p.frames.items) pool ∙ taken.ensures.shares.len) (omega (arith, ap (λ (p : Pool). p.spare) pool, taken.ensures.spare));
-      in_place = λ one. absurd (c.requires.shared (one_from s c.requires.kept c.args.t.0 c.args.place e c.requires.there one));
-      one = λ shared. TakesOne-room s s1 new c.requires.kept m.kept room (ap (λ (p : Pool). length p.frames.items) pool ∙ taken.ensures.shares.len) (ap (λ (p : Pool). p.spare + 1) pool ∙ taken.ensures.one many);
+      store = c.in_ok-reserve.ensures.store;
+      live = live_there m0 c.args.t (reserved_live s m0 (1 - s.frame_counts.spare) (1 - s.leaf_counts.spare) c.in_ok-reserve.ensures.made c.args.t ∙ live);
+      within = omega (arith, window_below c.args.page (c.requires.store.kept.pages.in_window c.args.t c.args.page c.args.entry c.requires.there));
+      spare = omega (arith, c.in_ok-reserve.ensures.made.leaves_spare);
     }
+
+pub take_copy-number-requires : goal.take_copy-number-requires
+take_copy-number-requires c =
+    let s = c.args.self.now in
+    let m0 = c.reserve.new.self in
+    let m1 = c.own_leaf-leaf.new.self in
+    let ready = c.own_leaf-leaf.ensures.ready in
+    let more = copied_more s m0 m1 c.args.t c.args.page c.own_leaf-leaf.result (1 - s.frame_counts.spare) (1 - s.leaf_counts.spare) c.args.entry c.requires.store c.in_ok-reserve.ensures.store c.in_ok-reserve.ensures.made
+    ready c.own_leaf-leaf.ensures.same c.requires.there c.requires.shared in
+    record {
+      spare = omega (arith, c.in_ok-reserve.ensures.made.frames_spare, c.own_leaf-leaf.ensures.room.frames);
+      counts = ready.room.frames;
+      shared = more.1;
+      within = entry_within m1 ready.kept ready.room c.args.t c.args.page c.args.entry more.0;
+    }
+
+pub set_slot-requires : goal.set_slot-requires
+set_slot-requires c =
+    let m1 = c.own_leaf-leaf.new.self in
+    let ready = c.own_leaf-leaf.ensures.ready in
+    let l = c.own_leaf-leaf.result in
+    let i = c.args.page / 1024 in
+    record {
+      within = omega (arith, leaf_there m1 ready.kept c.args.t i l ready.place, ap (λ (it : Store). length it.leaves.items) c.take_copy-number.ensures.rest);
+      slot = omega arith;
+      len = ap (λ (it : Store). length (get_or (leaf_grid it) l [])) c.take_copy-number.ensures.rest ∙ leaf_length m1 ready.kept c.args.t i l ready.place;
+      slots = subst CountsSlots (sym c.take_copy-number.ensures.rest) ready.slots;
+    }
+
+pub returns : goal.returns
+returns c =
+    let s = c.args.self.now in
+    let m0 = c.reserve.new.self in
+    let m1 = c.own_leaf-leaf.new.self in
+    let m2 = c.take_copy-number.new.self in
+    let new = c.set_slot.new.self in
+    let e = c.args.entry in
+    let l = c.own_leaf-leaf.result in
+    let f = c.take_copy-number.result in
+    let ready = c.own_leaf-leaf.ensures.ready in
+    let made = c.in_ok-reserve.ensures.made in
+    let more = copied_more s m0 m1 c.args.t c.args.page l (1 - s.frame_counts.spare) (1 - s.leaf_counts.spare) e c.requires.store c.in_ok-reserve.ensures.store made ready c.own_leaf-leaf.ensures.same c.requires.there c.requires.shared in
+    let plain = shared_flag s c.requires.store.kept c.args.t c.args.page e c.requires.there c.requires.shared in
+    let page = copied_page m1 m2 new c.args.t c.args.page l f e ready more.0 plain more.1
+    (record {
+      within = c.take_copy-number.ensures.number.0;
+      free = c.take_copy-number.ensures.number.2;
+      counts = c.take_copy-number.ensures.counts;
+      spare = c.take_copy-number.ensures.spare;
+      tallied = c.take_copy-number.ensures.tallied;
+      frames = c.take_copy-number.ensures.frames;
+      took = c.take_copy-number.ensures.rest;
+      grid = c.set_slot.ensures.grid ∙ ap (λ (d : Entry). set (leaf_grid m2) l (set (get_or (leaf_grid m2) l []) (c.args.page % 1024) (Some d))) c.new-own.ensures;
+      slots = c.set_slot.ensures.slots;
+      pages = c.set_slot.ensures.pages;
+      put = c.set_slot.ensures.rest;
+    }) in
+    let all = copied_entry s m0 m1 new c.args.t c.args.page l f e c.requires.store c.in_ok-reserve.ensures.store made ready c.own_leaf-leaf.ensures.same c.own_leaf-leaf.ensures.leaf c.own_leaf-leaf.ensures.room
+    c.requires.there c.requires.shared more.1 c.take_copy-number.ensures.number.2 page in
+    record {
+      store = page.store;
+      owns = subst (λ (d : Entry). OwnsEntry s new c.args.t c.args.page e d) (sym c.new-own.ensures) all.owns;
+      takes = all.takes;
+      leaf = all.leaf;
+      succeeds = search rules;
+      only = search rules;
+      err = search rules;
+    }
+
+pub returns-in_err-reserve-clause-succeeds : goal.returns-in_err-reserve-clause-succeeds
+returns-in_err-reserve-clause-succeeds c = λ some. absurd (true≢false (sym (c.reserve.ensures.enough (omega (arith, some))).0 ∙ ap is_ok c.in_err-reserve.was))
 
 pub returns-in_err-reserve-clause-only : goal.returns-in_err-reserve-clause-only
 returns-in_err-reserve-clause-only c =
     let s = c.args.self.now in
-    let ok = λ (some : 1 ≤ s.pool.spare). c.reserve.ensures.enough some in
-    let none : s.pool.spare ≡ 0 = elim (cases_lt 0 s.pool.spare) [
+    let ok = λ (some : 1 ≤ spare_of s). (c.reserve.ensures.enough some).0 in
+    let none : spare_of s ≡ 0 = elim (cases_lt 0 (spare_of s)) [
       | inl some ↦ absurd (true≢false (sym (ok (omega arith)) ∙ ap is_ok c.in_err-reserve.was))
       | inr none ↦ omega arith
     ] in
-    let both : IsShared (shown s) c.args.t.0 (page_number c.args.place) × (s.pool.spare ≡ 0) =
-    (IsShared-entry s c.requires.kept c.args.t.0 c.args.place c.args.entry c.requires.there c.requires.shared, none) in
+    let both : IsShared (shown s) c.args.t c.args.page × (spare_of s ≡ 0) = (c.requires.shared, none) in
     on_err _ both

@@ -1,89 +1,72 @@
-use Rattle.std.proofs.Common.{◌≡◌, ◌∙◌, ◌≤◌, sym, ap, subst, refl, List, Option, get_or, set, None, Some, []}
+use Rattle.std.proofs.Common.{◌≡◌, ◌+◌, ◌-◌, cond, ℕ, None, set, refl, subst, sym, ap, ◌∙◌, arith}
 use Rattle.std.specs.Vec.{with_item}
-use Rattle.std.proofs.lemmas.Option.{none-some}
-use Rattle.cow_pages.specs.declared.table.Table.{Table}
-use Rattle.cow_pages.specs.declared.table.Entry.{Entry}
-use Rattle.cow_pages.specs.Pool.{Shares, holders, sharers_of}
-use Rattle.cow_pages.specs.Tables.{entries_of, frames_in, SetsTable}
-use Rattle.cow_pages.proofs.ReadLemmas.{live_within, table_read, none_is_not_live}
-use Rattle.cow_pages.proofs.TablesLemmas.{SetsTable-set}
-use Rattle.cow_pages.proofs.ForkLemmas.{table_dropped}
-use Rattle.cow_pages.proofs.RoomLemmas.{may_drop}
+use Rattle.sharers.specs.Shares.{count_of}
+use Rattle.cow_pages.specs.declared.store.Store.{Store}
+use Rattle.cow_pages.specs.Steps.{Ending}
+use Rattle.page_tables.proofs.ListLemmas.{live_within}
+use Rattle.cow_pages.proofs.ReadLemmas.{live_there}
+use Rattle.cow_pages.proofs.EndLemmas.{ending_none, ending_skip, ended}
 use Rattle.cow_pages.proofs.store.Store.drop_table.Goals as goal
+use Rattle.cow_pages.proofs.store.Store.drop_table.Goals.{in-Some, in_default}
 
-pub unshare_all-requires-clause-within : goal.unshare_all-requires-clause-within
-unshare_all-requires-clause-within c =
-    let s = c.args.self.now in
-    let t = c.args.t.0 in
-    let within = live_within s.pool.frames.items s.tables.items t c.requires.live in
-    let was : get_or s.tables.items t None ≡ Some c.in-Some.table = table_read s.tables.items t c.index_mut.result.now within c.index_mut.ensures.value ∙ sym c.in-Some.ensures.value in
-    let es = entries_of (get_or s.tables.items t None) in
-    let lent : c.as_slice.result.now ≡ es = c.as_slice.ensures.value ∙ ap entries_of (sym was) in
-    λ k e is. c.requires.kept.in_range t k e (ap (λ (xs : List (Option Entry)). get_or xs k None) (sym lent) ∙ is)
+pub loop-i-init : goal.loop-i-init
+loop-i-init c = ending_none c.args.self.now c.args.t c.requires.store
 
-pub unshare_all-requires-clause-shared : goal.unshare_all-requires-clause-shared
-unshare_all-requires-clause-shared c =
-    let s = c.args.self.now in
-    let t = c.args.t.0 in
-    let within = live_within s.pool.frames.items s.tables.items t c.requires.live in
-    let was : get_or s.tables.items t None ≡ Some c.in-Some.table = table_read s.tables.items t c.index_mut.result.now within c.index_mut.ensures.value ∙ sym c.in-Some.ensures.value in
-    let es = entries_of (get_or s.tables.items t None) in
-    let lent : c.as_slice.result.now ≡ es = c.as_slice.ensures.value ∙ ap entries_of (sym was) in
-    λ f. subst (λ (xs : List (Option Entry)). holders (frames_in xs) f ≤ sharers_of s.pool.frames.items f) (sym lent) (may_drop s c.requires.kept t f)
+pub place-requires-clause-live : goal.place-requires-clause-live
+place-requires-clause-live c = c.loop-i.invariant.live c.args.t ∙ live_there c.args.self.now c.args.t c.requires.live
 
-pub unreachable-requires : goal.unreachable-requires
-unreachable-requires c =
-    let s = c.args.self.now in
-    let within = live_within s.pool.frames.items s.tables.items c.args.t.0 c.requires.live in
-    none_is_not_live s c.args.t.0 (table_read s.tables.items c.args.t.0 c.index_mut.result.now within c.index_mut.ensures.value ∙ sym c.in-None.ensures.value) c.requires.live
+pub place-requires-clause-within : goal.place-requires-clause-within
+place-requires-clause-within c =
+    omega (arith, c.loop-i-test.true, c.loop-i.invariant.room.rows c.args.t (c.loop-i.invariant.live c.args.t ∙ live_there c.args.self.now c.args.t c.requires.live))
 
-pub returns-clause-kept : goal.returns-clause-kept
-returns-clause-kept c =
-    let s = c.args.self.now in
-    let t = c.args.t.0 in
-    let within = live_within s.pool.frames.items s.tables.items t c.requires.live in
-    let was : get_or s.tables.items t None ≡ Some c.in-Some.table = table_read s.tables.items t c.index_mut.result.now within c.index_mut.ensures.value ∙ sym c.in-Some.ensures.value in
-    let es = entries_of (get_or s.tables.items t None) in
-    let lent : c.as_slice.result.now ≡ es = c.as_slice.ensures.value ∙ ap entries_of (sym was) in
-    let after : c.take.new.self ≡ None = c.in-Some.ensures.after in
-    let new = record s { pool = c.unshare_all.new.self; tables = with_item s.tables t c.take.new.self } in
-    let sets = subst (λ (o : Option Table). SetsTable s.tables.items (set s.tables.items t c.take.new.self) t o) after
-    (SetsTable-set s.tables.items t c.take.new.self within c.requires.kept.counted (λ it is. absurd (none-some it (sym after ∙ is)))) in
-    let shares : Shares s.pool.frames.items c.unshare_all.new.self.frames.items [] (frames_in es) =
-    subst (λ (xs : List (Option Entry)). Shares s.pool.frames.items c.unshare_all.new.self.frames.items [] (frames_in xs)) lent c.unshare_all.ensures.shares in
-    let m = table_dropped s new t c.requires.kept sets c.unshare_all.ensures.pool shares c.unshare_all.ensures.bytes refl in
-    m.kept
+pub drop_leaf-requires-clause-kept : goal.drop_leaf-requires-clause-kept
+drop_leaf-requires-clause-kept c = c.loop-i.invariant.drops.kept
 
-pub returns-clause-ended : goal.returns-clause-ended
-returns-clause-ended c =
-    let s = c.args.self.now in
-    let t = c.args.t.0 in
-    let within = live_within s.pool.frames.items s.tables.items t c.requires.live in
-    let was : get_or s.tables.items t None ≡ Some c.in-Some.table = table_read s.tables.items t c.index_mut.result.now within c.index_mut.ensures.value ∙ sym c.in-Some.ensures.value in
-    let es = entries_of (get_or s.tables.items t None) in
-    let lent : c.as_slice.result.now ≡ es = c.as_slice.ensures.value ∙ ap entries_of (sym was) in
-    let after : c.take.new.self ≡ None = c.in-Some.ensures.after in
-    let new = record s { pool = c.unshare_all.new.self; tables = with_item s.tables t c.take.new.self } in
-    let sets = subst (λ (o : Option Table). SetsTable s.tables.items (set s.tables.items t c.take.new.self) t o) after
-    (SetsTable-set s.tables.items t c.take.new.self within c.requires.kept.counted (λ it is. absurd (none-some it (sym after ∙ is)))) in
-    let shares : Shares s.pool.frames.items c.unshare_all.new.self.frames.items [] (frames_in es) =
-    subst (λ (xs : List (Option Entry)). Shares s.pool.frames.items c.unshare_all.new.self.frames.items [] (frames_in xs)) lent c.unshare_all.ensures.shares in
-    let m = table_dropped s new t c.requires.kept sets c.unshare_all.ensures.pool shares c.unshare_all.ensures.bytes refl in
-    m.live
+pub drop_leaf-requires-clause-room : goal.drop_leaf-requires-clause-room
+drop_leaf-requires-clause-room c = c.loop-i.invariant.room
 
-pub returns-clause-rest : goal.returns-clause-rest
-returns-clause-rest c =
+pub drop_leaf-requires-clause-place : goal.drop_leaf-requires-clause-place
+drop_leaf-requires-clause-place c = sym c.place.ensures ∙ c.in-Some.is
+
+pub loop-i-preserved : goal.loop-i-preserved
+loop-i-preserved c =
     let s = c.args.self.now in
-    let t = c.args.t.0 in
-    let within = live_within s.pool.frames.items s.tables.items t c.requires.live in
-    let was : get_or s.tables.items t None ≡ Some c.in-Some.table = table_read s.tables.items t c.index_mut.result.now within c.index_mut.ensures.value ∙ sym c.in-Some.ensures.value in
-    let es = entries_of (get_or s.tables.items t None) in
-    let lent : c.as_slice.result.now ≡ es = c.as_slice.ensures.value ∙ ap entries_of (sym was) in
-    let after : c.take.new.self ≡ None = c.in-Some.ensures.after in
-    let new = record s { pool = c.unshare_all.new.self; tables = with_item s.tables t c.take.new.self } in
-    let sets = subst (λ (o : Option Table). SetsTable s.tables.items (set s.tables.items t c.take.new.self) t o) after
-    (SetsTable-set s.tables.items t c.take.new.self within c.requires.kept.counted (λ it is. absurd (none-some it (sym after ∙ is)))) in
-    let shares : Shares s.pool.frames.items c.unshare_all.new.self.frames.items [] (frames_in es) =
-    subst (λ (xs : List (Option Entry)). Shares s.pool.frames.items c.unshare_all.new.self.frames.items [] (frames_in xs)) lent c.unshare_all.ensures.shares in
-    let m = table_dropped s new t c.requires.kept sets c.unshare_all.ensures.pool shares c.unshare_all.ensures.bytes refl in
-    m.rest
+    let P : Store → Type 0 = λ it. Ending s it c.args.t (c.loop-i.i + 1) in
+    elim c.match-place.branch [
+      | in-Some w ↦ subst P (sym w.self-is) (w.drop_leaf.ensures s c.loop-i.invariant)
+      | in_default w ↦ subst P (sym w.self-is) (ending_skip s c.loop-i.self c.args.t c.loop-i.i c.loop-i.invariant (sym c.place.ensures ∙ w.in_default.is))
+    ]
+
+pub index_mut-requires : goal.index_mut-requires
+index_mut-requires c =
+    let m = c.loop-i.self in
+    omega (arith, m.tables.ok, live_within m.tables.items c.args.t (c.loop-i.invariant.live c.args.t ∙ live_there c.args.self.now c.args.t c.requires.live))
+
+pub unshare-requires-clause-within : goal.unshare-requires-clause-within
+unshare-requires-clause-within c =
+    let m = c.loop-i.self in
+    omega (arith, c.loop-i.invariant.room.tables, live_within m.tables.items c.args.t (c.loop-i.invariant.live c.args.t ∙ live_there c.args.self.now c.args.t c.requires.live))
+
+pub unshare-requires-clause-held : goal.unshare-requires-clause-held
+unshare-requires-clause-held c =
+    let live = c.loop-i.invariant.live c.args.t ∙ live_there c.args.self.now c.args.t c.requires.live in
+    omega (arith, c.loop-i.invariant.room.numbers c.args.t, ap (λ b. cond {A = ℕ} b 1 0) live)
+
+pub returns : goal.returns
+returns c =
+    let s = c.args.self.now in
+    let m = c.loop-i.self in
+    let t = c.args.t in
+    let first = live_there s t c.requires.live in
+    let live = c.loop-i.invariant.live t ∙ first in
+    let one : count_of m.table_counts t ≡ 1 = c.loop-i.invariant.room.numbers t ∙ ap (λ b. cond {A = ℕ} b 1 0) live in
+    let none : count_of m.table_counts t - 1 ≡ 0 = omega (arith, one) in
+    let end : c.loop-i.i ≡ 1024 = omega (arith, c.loop-i-test.false) in
+    let all = ended s m (record m { tables = with_item m.tables t None; table_counts = c.unshare.new.self }) t c.requires.store first (subst (Ending s m t) end c.loop-i.invariant)
+    (record {
+      tables = refl;
+      counts = c.unshare.ensures.counts ∙ ap (λ (n : ℕ). set m.table_counts.counts t n) none;
+      tallied = c.unshare.ensures.tallied;
+      rest = refl;
+    }) in
+    record { store = all.store; ended = all.ended; rest = all.rest; leaves = (all.others, all.none); used = all.used; room = all.room }

@@ -1,89 +1,47 @@
-use Rattle.std.proofs.Common.{◌≡◌, ◌∙◌, ◌+◌, ◌∷◌, [], ap, length, sym, subst, Some, replicate}
-use Rattle.model_numbers.specs.Numbers.{page_bytes}
-use Rattle.cow_pages.specs.declared.pool.Pool.{Pool}
-use Rattle.cow_pages.specs.declared.table.Entry.{Entry}
-use Rattle.cow_pages.specs.Place.{place_of}
-use Rattle.cow_pages.specs.Pool.{IsPool, Shares, SetsBytes}
-use Rattle.cow_pages.specs.Tables.{SetsEntry}
-use Rattle.cow_pages.proofs.ChangeLemmas.{mapped, none-entry, live-there}
-use Rattle.cow_pages.proofs.RoomLemmas.{MapsZeros-room, ChangesPage-room, TakesOne-room}
+use Rattle.std.proofs.Common.{rules, ◌-◌, true≢false, sym, ap, ◌∙◌, arith}
+use Rattle.std.specs.Prelude.{is_ok}
+use Rattle.page_tables.proofs.WindowLemmas.{window_below}
+use Rattle.cow_pages.proofs.ReadLemmas.{live_there}
+use Rattle.cow_pages.proofs.SlotLemmas.{reserved_pages, entry_none}
+use Rattle.cow_pages.proofs.CopyLemmas.{reserved_live, mapped_zero}
 use Rattle.cow_pages.proofs.store.Store.map_zero.Goals as goal
 
-pub set_entry-requires-clause-live : goal.set_entry-requires-clause-live
-set_entry-requires-clause-live c = rw c.in_ok-reserve.ensures.tables (live-there _ c.args.self.now c.args.t.0 c.requires.live)
-
-pub returns-clause-kept : goal.returns-clause-kept
-returns-clause-kept c =
+pub own_leaf-leaf-requires-clause-live : goal.own_leaf-leaf-requires-clause-live
+own_leaf-leaf-requires-clause-live c =
     let s = c.args.self.now in
-    let s1 = c.reserve.new.self in
-    let new = c.set_entry.new.self in
-    let taken = c.take_zeros-number in
-    let room = c.in_ok-reserve.ensures.made in
-    let at : place_of c.args.page.0 ≡ Some c.in-Some.place = sym c.place_of.ensures ∙ c.in-Some.is in
-    let none = none-entry s c.args.t.0 c.args.page.0 c.in-Some.place at c.requires.unmapped in
-    let tables = c.in_ok-reserve.ensures.tables in
-    let pool : new.pool ≡ taken.new.self = c.set_entry.ensures.pool in
-    let m = mapped s1 new c.args.t.0 c.args.page.0 c.in-Some.place taken.result c.in_ok-reserve.ensures.kept at
-    (rw tables none) (subst IsPool (sym pool) taken.ensures.pool) taken.ensures.free
-    (subst (λ (p : Pool). Shares s1.pool.frames.items p.frames.items (taken.result ∷ []) []) (sym pool) taken.ensures.shares)
-    (subst (λ (p : Pool). SetsBytes s1.pool.frames.items p.frames.items taken.result (replicate page_bytes 0)) (sym pool) taken.ensures.bytes)
-    (subst (λ (it : Entry). SetsEntry s1.tables.items new.tables.items c.args.t.0 c.in-Some.place (Some it)) c.new.ensures c.set_entry.ensures.entry)
-    c.set_entry.ensures.reads in
-    m.kept
+    live_there c.reserve.new.self c.args.t (reserved_live s c.reserve.new.self (1 - s.frame_counts.spare) (1 - s.leaf_counts.spare) c.in_ok-reserve.ensures.made c.args.t ∙ c.requires.live)
 
-pub returns-clause-zeros : goal.returns-clause-zeros
-returns-clause-zeros c =
-    let s = c.args.self.now in
-    let s1 = c.reserve.new.self in
-    let new = c.set_entry.new.self in
-    let taken = c.take_zeros-number in
-    let room = c.in_ok-reserve.ensures.made in
-    let at : place_of c.args.page.0 ≡ Some c.in-Some.place = sym c.place_of.ensures ∙ c.in-Some.is in
-    let none = none-entry s c.args.t.0 c.args.page.0 c.in-Some.place at c.requires.unmapped in
-    let tables = c.in_ok-reserve.ensures.tables in
-    let pool : new.pool ≡ taken.new.self = c.set_entry.ensures.pool in
-    let m = mapped s1 new c.args.t.0 c.args.page.0 c.in-Some.place taken.result c.in_ok-reserve.ensures.kept at
-    (rw tables none) (subst IsPool (sym pool) taken.ensures.pool) taken.ensures.free
-    (subst (λ (p : Pool). Shares s1.pool.frames.items p.frames.items (taken.result ∷ []) []) (sym pool) taken.ensures.shares)
-    (subst (λ (p : Pool). SetsBytes s1.pool.frames.items p.frames.items taken.result (replicate page_bytes 0)) (sym pool) taken.ensures.bytes)
-    (subst (λ (it : Entry). SetsEntry s1.tables.items new.tables.items c.args.t.0 c.in-Some.place (Some it)) c.new.ensures c.set_entry.ensures.entry)
-    c.set_entry.ensures.reads in
-    MapsZeros-room s s1 new _ _ _ room m.zeros
+pub own_leaf-leaf-requires-clause-within : goal.own_leaf-leaf-requires-clause-within
+own_leaf-leaf-requires-clause-within c = omega (arith, window_below c.args.page c.requires.window)
 
-pub returns-clause-rest : goal.returns-clause-rest
-returns-clause-rest c =
-    let s = c.args.self.now in
-    let s1 = c.reserve.new.self in
-    let new = c.set_entry.new.self in
-    let taken = c.take_zeros-number in
-    let room = c.in_ok-reserve.ensures.made in
-    let at : place_of c.args.page.0 ≡ Some c.in-Some.place = sym c.place_of.ensures ∙ c.in-Some.is in
-    let none = none-entry s c.args.t.0 c.args.page.0 c.in-Some.place at c.requires.unmapped in
-    let tables = c.in_ok-reserve.ensures.tables in
-    let pool : new.pool ≡ taken.new.self = c.set_entry.ensures.pool in
-    let m = mapped s1 new c.args.t.0 c.args.page.0 c.in-Some.place taken.result c.in_ok-reserve.ensures.kept at
-    (rw tables none) (subst IsPool (sym pool) taken.ensures.pool) taken.ensures.free
-    (subst (λ (p : Pool). Shares s1.pool.frames.items p.frames.items (taken.result ∷ []) []) (sym pool) taken.ensures.shares)
-    (subst (λ (p : Pool). SetsBytes s1.pool.frames.items p.frames.items taken.result (replicate page_bytes 0)) (sym pool) taken.ensures.bytes)
-    (subst (λ (it : Entry). SetsEntry s1.tables.items new.tables.items c.args.t.0 c.in-Some.place (Some it)) c.new.ensures c.set_entry.ensures.entry)
-    c.set_entry.ensures.reads in
-    ChangesPage-room s s1 new _ _ _ room m.rest
+pub own_leaf-leaf-requires-clause-spare : goal.own_leaf-leaf-requires-clause-spare
+own_leaf-leaf-requires-clause-spare c = omega (arith, c.in_ok-reserve.ensures.made.leaves_spare)
 
-pub returns-clause-one : goal.returns-clause-one
-returns-clause-one c =
+pub map-requires-clause-unmapped : goal.map-requires-clause-unmapped
+map-requires-clause-unmapped c =
     let s = c.args.self.now in
-    let s1 = c.reserve.new.self in
-    let new = c.set_entry.new.self in
-    let taken = c.take_zeros-number in
-    let room = c.in_ok-reserve.ensures.made in
-    let at : place_of c.args.page.0 ≡ Some c.in-Some.place = sym c.place_of.ensures ∙ c.in-Some.is in
-    let none = none-entry s c.args.t.0 c.args.page.0 c.in-Some.place at c.requires.unmapped in
-    let tables = c.in_ok-reserve.ensures.tables in
-    let pool : new.pool ≡ taken.new.self = c.set_entry.ensures.pool in
-    let m = mapped s1 new c.args.t.0 c.args.page.0 c.in-Some.place taken.result c.in_ok-reserve.ensures.kept at
-    (rw tables none) (subst IsPool (sym pool) taken.ensures.pool) taken.ensures.free
-    (subst (λ (p : Pool). Shares s1.pool.frames.items p.frames.items (taken.result ∷ []) []) (sym pool) taken.ensures.shares)
-    (subst (λ (p : Pool). SetsBytes s1.pool.frames.items p.frames.items taken.result (replicate page_bytes 0)) (sym pool) taken.ensures.bytes)
-    (subst (λ (it : Entry). SetsEntry s1.tables.items new.tables.items c.args.t.0 c.in-Some.place (Some it)) c.new.ensures c.set_entry.ensures.entry)
-    c.set_entry.ensures.reads in
-    TakesOne-room s s1 new c.requires.kept m.kept room (ap (λ (p : Pool). length p.frames.items) pool ∙ taken.ensures.shares.len) (ap (λ (p : Pool). p.spare + 1) pool ∙ taken.ensures.spare)
+    let m0 = c.reserve.new.self in
+    c.own_leaf-leaf.ensures.same.same c.args.t c.args.page
+    ∙ entry_none s m0 c.requires.store.kept c.in_ok-reserve.ensures.store.kept (reserved_pages s m0 (1 - s.frame_counts.spare) (1 - s.leaf_counts.spare) c.in_ok-reserve.ensures.made) c.args.t c.args.page c.requires.unmapped
+
+pub map-requires-clause-spare : goal.map-requires-clause-spare
+map-requires-clause-spare c = omega (arith, c.in_ok-reserve.ensures.made.frames_spare, c.own_leaf-leaf.ensures.room.frames)
+
+pub returns : goal.returns
+returns c =
+    let s = c.args.self.now in
+    let all = mapped_zero s c.reserve.new.self c.own_leaf-leaf.new.self c.map.new.self c.args.t c.args.page c.own_leaf-leaf.result c.requires.store c.in_ok-reserve.ensures.store c.in_ok-reserve.ensures.made
+    c.own_leaf-leaf.ensures.same c.own_leaf-leaf.ensures.leaf c.own_leaf-leaf.ensures.room c.map.ensures.store c.map.ensures.maps in
+    record {
+      store = c.map.ensures.store;
+      zeros = all.zeros;
+      rest = all.rest;
+      takes = all.takes;
+      one = all.one;
+      leaf = all.leaf;
+      succeeds = search rules;
+      err = search rules;
+    }
+
+pub returns-in_err-reserve-clause-succeeds : goal.returns-in_err-reserve-clause-succeeds
+returns-in_err-reserve-clause-succeeds c = λ some. absurd (true≢false (sym (c.reserve.ensures.enough (omega (arith, some))).0 ∙ ap is_ok c.in_err-reserve.was))

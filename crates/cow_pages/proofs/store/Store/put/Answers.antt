@@ -1,54 +1,24 @@
-use Rattle.std.proofs.Common.{◌≡◌, [], sym, subst}
-use Rattle.cow_pages.specs.declared.pool.Pool.{Pool}
-use Rattle.cow_pages.specs.Change.{patched}
-use Rattle.cow_pages.specs.Pool.{bytes_of, IsPool, Shares, SetsBytes}
-use Rattle.cow_pages.proofs.ChangeLemmas.{was_put, live-there, live-entry}
+use Rattle.std.proofs.Common.{◌<◌, ℕ, List, [], length, set, refl, sym, ap, subst, ◌∙◌, arith}
+use Rattle.std.proofs.lemmas.List.{get_or_default}
+use Rattle.page_tables.specs.declared.frame.Frame.{Frame}
+use Rattle.page_tables.specs.Frame.{patched}
+use Rattle.page_tables.proofs.ListLemmas.{field-was}
+use Rattle.cow_pages.proofs.MarkLemmas.{put_store}
 use Rattle.cow_pages.proofs.store.Store.put.Goals as goal
 
-pub put-requires-clause-within : goal.put-requires-clause-within
-put-requires-clause-within c = c.requires.kept.in_range c.args.t.0 c.args.place c.args.entry c.requires.there
-
-pub mark-requires-clause-live : goal.mark-requires-clause-live
-mark-requires-clause-live c = live-there _ c.args.self.now c.args.t.0 (live-entry c.args.self.now c.args.t.0 c.args.place c.args.entry c.requires.there)
-
-pub returns-clause-kept : goal.returns-clause-kept
-returns-clause-kept c =
+pub put-requires : goal.put-requires
+put-requires c =
     let s = c.args.self.now in
-    let e = c.args.entry in
-    let new = c.mark.new.self in
-    let put = c.put in
-    let pool : new.pool ≡ put.new.self = c.mark.ensures.pool in
-    let bs = patched (bytes_of s.pool.frames.items e.frame) c.args.offset c.args.bytes.now in
-    let m = was_put s new c.args.t.0 c.args.place e bs c.requires.kept c.requires.there c.requires.alone (subst IsPool (sym pool) put.ensures.pool)
-    (subst (λ (p : Pool). Shares s.pool.frames.items p.frames.items [] []) (sym pool) put.ensures.shares)
-    (subst (λ (p : Pool). SetsBytes s.pool.frames.items p.frames.items e.frame bs) (sym pool) put.ensures.bytes)
-    c.mark.ensures.entry c.mark.ensures.reads in
-    m.kept
+    let read = field-was (λ (it : Frame). it.bytes) s.frames.items c.args.number c.index_mut.result.now [] c.requires.within c.index_mut.ensures.value in
+    omega (arith, ap (λ (bs : List ℕ). length bs) read, c.requires.store.room.whole c.args.number c.requires.within, c.requires.room)
 
-pub returns-clause-now : goal.returns-clause-now
-returns-clause-now c =
+pub returns : goal.returns
+returns c =
     let s = c.args.self.now in
-    let e = c.args.entry in
-    let new = c.mark.new.self in
-    let put = c.put in
-    let pool : new.pool ≡ put.new.self = c.mark.ensures.pool in
-    let bs = patched (bytes_of s.pool.frames.items e.frame) c.args.offset c.args.bytes.now in
-    let m = was_put s new c.args.t.0 c.args.place e bs c.requires.kept c.requires.there c.requires.alone (subst IsPool (sym pool) put.ensures.pool)
-    (subst (λ (p : Pool). Shares s.pool.frames.items p.frames.items [] []) (sym pool) put.ensures.shares)
-    (subst (λ (p : Pool). SetsBytes s.pool.frames.items p.frames.items e.frame bs) (sym pool) put.ensures.bytes)
-    c.mark.ensures.entry c.mark.ensures.reads in
-    m.now
-
-pub returns-clause-rest : goal.returns-clause-rest
-returns-clause-rest c =
-    let s = c.args.self.now in
-    let e = c.args.entry in
-    let new = c.mark.new.self in
-    let put = c.put in
-    let pool : new.pool ≡ put.new.self = c.mark.ensures.pool in
-    let bs = patched (bytes_of s.pool.frames.items e.frame) c.args.offset c.args.bytes.now in
-    let m = was_put s new c.args.t.0 c.args.place e bs c.requires.kept c.requires.there c.requires.alone (subst IsPool (sym pool) put.ensures.pool)
-    (subst (λ (p : Pool). Shares s.pool.frames.items p.frames.items [] []) (sym pool) put.ensures.shares)
-    (subst (λ (p : Pool). SetsBytes s.pool.frames.items p.frames.items e.frame bs) (sym pool) put.ensures.bytes)
-    c.mark.ensures.entry c.mark.ensures.reads in
-    m.rest
+    let x = c.index_mut.result.now in
+    let read = field-was (λ (it : Frame). it.bytes) s.frames.items c.args.number x [] c.requires.within c.index_mut.ensures.value in
+    let all = put_store s (record s { frames = Rattle.std.specs.Vec.with_item s.frames c.args.number (record { bytes = c.put.new.bytes }) }) c.args.number c.args.offset c.args.bytes.now c.requires.store c.requires.within c.requires.room
+    (λ k d within. subst (λ b. b < 256) (get_or_default c.args.bytes.now k 0 d within) (omega (arith, c.type_inv.bytes k)))
+    (ap (λ (bs : List ℕ). set s.frames.items c.args.number (record { bytes = bs })) (c.put.ensures.after ∙ ap (λ (bs : List ℕ). patched bs c.args.offset c.args.bytes.now) (sym read)))
+    refl in
+    record { store = all.0; puts = all.1 }

@@ -1,89 +1,76 @@
-use Rattle.std.proofs.Common.{◌≡◌, ◌∙◌, ◌∷◌, [], sym, ap, subst, Some}
-use Rattle.std.specs.Prelude.{option_map}
-use Rattle.cow_pages.specs.declared.pool.Pool.{Pool}
-use Rattle.cow_pages.specs.Place.{place_of}
-use Rattle.cow_pages.specs.Pool.{IsPool, Shares, SameBytes}
-use Rattle.cow_pages.specs.Tables.{entry_at}
-use Rattle.cow_pages.specs.Memory.{HasOneSharer}
-use Rattle.cow_pages.specs.Store.{page_of_entry, shown}
-use Rattle.cow_pages.proofs.PlaceLemmas.{place_found}
-use Rattle.cow_pages.proofs.ReadLemmas.{mapped_live, not_mapped, page_at-place, page_at-none}
-use Rattle.cow_pages.proofs.KeptLemmas.{held}
-use Rattle.cow_pages.proofs.ChangeLemmas.{released, live-there, one_from}
+use Rattle.std.proofs.Common.{◌≢◌, ◌<◌, ◌/◌, sym, ◌∙◌, arith}
+use Rattle.std.proofs.lemmas.Option.{none-some}
+use Rattle.page_tables.specs.declared.leaf.Leaf.{Leaf}
+use Rattle.cow_pages.specs.Store.{table_grid, pages_kept}
+use Rattle.page_tables.proofs.ListLemmas.{field-was}
+use Rattle.page_tables.proofs.GridLemmas.{cell-column}
+use Rattle.cow_pages.proofs.SharedLemmas.{stands}
+use Rattle.cow_pages.proofs.SoundLemmas.{leaf_there}
+use Rattle.cow_pages.proofs.ReadLemmas.{mapped_entry, place_live}
+use Rattle.cow_pages.proofs.SlotLemmas.{one_counts}
+use Rattle.cow_pages.proofs.FreeLemmas.{released_stays, released_leaves}
 use Rattle.cow_pages.proofs.store.Store.release.Goals as goal
+
+pub place-requires-clause-live : goal.place-requires-clause-live
+place-requires-clause-live c =
+    let s = c.args.self.now in
+    let e = mapped_entry s c.requires.store c.args.t c.args.page c.requires.mapped in
+    let st = stands s c.args.t c.args.page e.0 e.1 in
+    place_live s c.args.t (c.args.page / 1024) st.leaf st.place
+
+pub place-requires-clause-within : goal.place-requires-clause-within
+place-requires-clause-within c =
+    let s = c.args.self.now in
+    let e = mapped_entry s c.requires.store c.args.t c.args.page c.requires.mapped in
+    let st = stands s c.args.t c.args.page e.0 e.1 in
+    cell-column (table_grid s) c.args.t (c.args.page / 1024) st.leaf st.place
 
 pub unreachable-requires : goal.unreachable-requires
 unreachable-requires c =
-    not_mapped c.args.self.now c.args.t.0 c.args.page.0
-    (page_at-none c.args.self.now c.requires.kept c.args.t.0 c.args.page.0 (sym c.place_of.ensures ∙ c.in_default.is)) c.requires.mapped
-
-pub entry-requires-clause-live : goal.entry-requires-clause-live
-entry-requires-clause-live c = mapped_live c.args.self.now c.args.t.0 c.args.page.0 c.requires.mapped
-
-pub entry-requires-clause-place : goal.entry-requires-clause-place
-entry-requires-clause-place c = (place_found c.args.page.0 c.in-Some.place (sym c.place_of.ensures ∙ c.in-Some.is)).1
-
-pub unreachable-requires-in_default-entry : goal.unreachable-requires-in_default-entry
-unreachable-requires-in_default-entry c =
-    not_mapped c.args.self.now c.args.t.0 c.args.page.0
-    (page_at-place c.args.self.now c.args.t.0 c.args.page.0 c.in-Some.place (sym c.place_of.ensures ∙ c.in-Some.is)
-    ∙ ap (option_map (page_of_entry c.args.self.now.pool.frames.items)) (sym c.entry.ensures ∙ c.in_default-entry.is)) c.requires.mapped
-
-pub unshare-requires-clause-within : goal.unshare-requires-clause-within
-unshare-requires-clause-within c = c.requires.kept.in_range c.args.t.0 c.in-Some.place c.in-Some-entry.entry (sym c.entry.ensures ∙ c.in-Some-entry.is)
-
-pub unshare-requires-clause-shared : goal.unshare-requires-clause-shared
-unshare-requires-clause-shared c = held c.args.self.now c.requires.kept c.args.t.0 c.in-Some.place c.in-Some-entry.entry (sym c.entry.ensures ∙ c.in-Some-entry.is)
-
-pub set_entry-requires-clause-live : goal.set_entry-requires-clause-live
-set_entry-requires-clause-live c = live-there _ c.args.self.now c.args.t.0 (mapped_live c.args.self.now c.args.t.0 c.args.page.0 c.requires.mapped)
-
-pub returns-clause-kept : goal.returns-clause-kept
-returns-clause-kept c =
     let s = c.args.self.now in
-    let new = c.set_entry.new.self in
-    let un = c.unshare in
-    let at : place_of c.args.page.0 ≡ Some c.in-Some.place = sym c.place_of.ensures ∙ c.in-Some.is in
-    let pool : new.pool ≡ un.new.self = c.set_entry.ensures.pool in
-    let is : entry_at s.tables.items c.args.t.0 c.in-Some.place ≡ Some c.in-Some-entry.entry = sym c.entry.ensures ∙ c.in-Some-entry.is in
-    let m = released s new c.args.t.0 c.args.page.0 c.in-Some.place c.in-Some-entry.entry c.requires.kept at is (subst IsPool (sym pool) un.ensures.pool)
-    (subst (λ (p : Pool). Shares s.pool.frames.items p.frames.items [] (c.in-Some-entry.entry.frame ∷ [])) (sym pool) un.ensures.shares)
-    (subst (λ (p : Pool). SameBytes s.pool.frames.items p.frames.items) (sym pool) un.ensures.bytes)
-    c.set_entry.ensures.entry c.set_entry.ensures.reads in
-    m.kept
+    let e = mapped_entry s c.requires.store c.args.t c.args.page c.requires.mapped in
+    let st = stands s c.args.t c.args.page e.0 e.1 in
+    none-some st.leaf (sym c.in_default.is ∙ c.place.ensures ∙ st.place)
 
-pub returns-clause-unmapped : goal.returns-clause-unmapped
-returns-clause-unmapped c =
+pub unmap-requires : goal.unmap-requires
+unmap-requires c =
     let s = c.args.self.now in
-    let new = c.set_entry.new.self in
-    let un = c.unshare in
-    let at : place_of c.args.page.0 ≡ Some c.in-Some.place = sym c.place_of.ensures ∙ c.in-Some.is in
-    let pool : new.pool ≡ un.new.self = c.set_entry.ensures.pool in
-    let is : entry_at s.tables.items c.args.t.0 c.in-Some.place ≡ Some c.in-Some-entry.entry = sym c.entry.ensures ∙ c.in-Some-entry.is in
-    let m = released s new c.args.t.0 c.args.page.0 c.in-Some.place c.in-Some-entry.entry c.requires.kept at is (subst IsPool (sym pool) un.ensures.pool)
-    (subst (λ (p : Pool). Shares s.pool.frames.items p.frames.items [] (c.in-Some-entry.entry.frame ∷ [])) (sym pool) un.ensures.shares)
-    (subst (λ (p : Pool). SameBytes s.pool.frames.items p.frames.items) (sym pool) un.ensures.bytes)
-    c.set_entry.ensures.entry c.set_entry.ensures.reads in
-    m.unmapped
+    let place = sym c.place.ensures ∙ c.in-Some.is in
+    let counts = one_counts s c.requires.store.kept c.args.t c.args.page c.in-Some.leaf c.mapped_entry-entry.result place c.mapped_entry-entry.ensures c.requires.alone in
+    record { store = c.requires.store; there = c.mapped_entry-entry.ensures; place = place; own = counts.0; alone = counts.1 }
 
-pub returns-clause-rest : goal.returns-clause-rest
-returns-clause-rest c =
-    let s = c.args.self.now in
-    let new = c.set_entry.new.self in
-    let un = c.unshare in
-    let at : place_of c.args.page.0 ≡ Some c.in-Some.place = sym c.place_of.ensures ∙ c.in-Some.is in
-    let pool : new.pool ≡ un.new.self = c.set_entry.ensures.pool in
-    let is : entry_at s.tables.items c.args.t.0 c.in-Some.place ≡ Some c.in-Some-entry.entry = sym c.entry.ensures ∙ c.in-Some-entry.is in
-    let m = released s new c.args.t.0 c.args.page.0 c.in-Some.place c.in-Some-entry.entry c.requires.kept at is (subst IsPool (sym pool) un.ensures.pool)
-    (subst (λ (p : Pool). Shares s.pool.frames.items p.frames.items [] (c.in-Some-entry.entry.frame ∷ [])) (sym pool) un.ensures.shares)
-    (subst (λ (p : Pool). SameBytes s.pool.frames.items p.frames.items) (sym pool) un.ensures.bytes)
-    c.set_entry.ensures.entry c.set_entry.ensures.reads in
-    m.rest
+pub index-requires : goal.index-requires
+index-requires c =
+    let m = c.unmap.new.self in
+    omega (arith, leaf_there m c.unmap.ensures.ready.kept c.args.t (c.args.page / 1024) c.in-Some.leaf c.unmap.ensures.ready.place, m.leaves.ok)
 
-pub returns-clause-freed : goal.returns-clause-freed
-returns-clause-freed c = λ alone.
+pub leave-requires : goal.leave-requires
+leave-requires c =
+    let m = c.unmap.new.self in
+    let l = c.in-Some.leaf in
+    let within = leaf_there m c.unmap.ensures.ready.kept c.args.t (c.args.page / 1024) l c.unmap.ensures.ready.place in
+    record {
+      ready = c.unmap.ensures.ready;
+      empty = field-was (λ (it : Leaf). it.mapped) m.leaves.items l c.index.result.now 0 within c.index.ensures ∙ c.if-index-eq0.true;
+    }
+
+pub returns-then-index-eq0 : goal.returns-then-index-eq0
+returns-then-index-eq0 c =
     let s = c.args.self.now in
-    let found : place_of c.args.page.0 ≡ Some c.in-Some.place = sym c.place_of.ensures ∙ c.in-Some.is in
-    let is : entry_at s.tables.items c.args.t.0 c.in-Some.place ≡ Some c.in-Some-entry.entry = sym c.entry.ensures ∙ c.in-Some-entry.is in
-    let there = subst (λ p. HasOneSharer (shown s) c.args.t.0 p) (sym (place_found c.args.page.0 c.in-Some.place found).0) alone in
-    ap (λ (p : Pool). p.spare) c.set_entry.ensures.pool ∙ c.unshare.ensures.freed (one_from s c.requires.kept c.args.t.0 c.in-Some.place c.in-Some-entry.entry is there)
+    let m = c.unmap.new.self in
+    let new = c.leave.new.self in
+    let all = released_leaves s m new c.args.t c.args.page c.in-Some.leaf c.requires.store c.unmap.ensures.ready c.unmap.ensures.unmaps c.leave.ensures.store c.leave.ensures.leaves c.leave.ensures.spare c.leave.ensures.rest
+    (record { kept = c.leave.ensures.counts.kept; live = c.leave.ensures.counts.live; len = c.leave.ensures.counts.len }) in
+    record { store = all.store; unmapped = all.unmapped; rest = all.rest; leaf = all.leaf; room = all.room; freed = all.freed }
+
+pub returns-else-index-eq0 : goal.returns-else-index-eq0
+returns-else-index-eq0 c =
+    let s = c.args.self.now in
+    let m = c.unmap.new.self in
+    let l = c.in-Some.leaf in
+    let within = leaf_there m c.unmap.ensures.ready.kept c.args.t (c.args.page / 1024) l c.unmap.ensures.ready.place in
+    let read = field-was (λ (it : Leaf). it.mapped) m.leaves.items l c.index.result.now 0 within c.index.ensures in
+    let none : pages_kept m l ≢ 0 = (λ zero. c.if-index-eq0.false (sym read ∙ zero)) in
+    let some : 0 < pages_kept m l = omega (arith, none) in
+    let all = released_stays s m c.args.t c.args.page l c.requires.store c.unmap.ensures.ready c.unmap.ensures.unmaps some in
+    record { store = all.store; unmapped = all.unmapped; rest = all.rest; leaf = all.leaf; room = all.room; freed = all.freed }

@@ -1,0 +1,18 @@
+//! Laws about runs of pages.
+ghost use Rattle.std.specs.Prelude.{◌≡◌, ℕ, ◌+◌, ◌≤◌};
+ghost use Rattle.page_tables.specs.declared.address.Window.{Window};
+ghost use Rattle.page_tables.specs.Address.{first_page, page_count};
+ghost use Rattle.cow_pages.specs.Memory.{Memory, IsSound, mapped_in};
+ghost use Rattle.page_runs.specs.Runs.{HasRun, MapsRun};
+
+/// A window of which a table has exactly a run has as many pages as the run.
+pub fn runs_are_counted()
+    ensures { (m : Memory) (t : ℕ) (w : Window) (first n : ℕ) → IsSound m → HasRun m t w first n
+        → first_page w ≤ first → first + n ≤ first_page w + page_count w → mapped_in m t w ≡ n }
+{}
+
+/// A run that is mapped directly behind another makes one run with it.
+pub fn runs_join()
+    ensures { (one two three : Memory) (t first n k : ℕ) → MapsRun one two t first n → MapsRun two three t (first + n) k
+        → MapsRun one three t first (n + k) }
+{}

@@ -1,0 +1,8 @@
+//! Runs of pages, one directly behind the other, mapped and released together.
+#![tactic(auto)]
+
+mod laws;
+mod runs;
+
+pub use laws::{runs_are_counted, runs_join};
+pub use runs::{map_reserved, map_run, release_run};

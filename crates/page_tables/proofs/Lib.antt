@@ -1,0 +1,5 @@
+pub mod WindowLemmas
+pub mod LeafLemmas
+pub mod ListLemmas
+pub mod PatchLemmas
+pub mod GridLemmas
