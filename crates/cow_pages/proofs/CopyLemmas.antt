@@ -14,7 +14,7 @@ use Rattle.cow_pages.specs.Frame.{frame_bytes, frame_of}
 use Rattle.cow_pages.specs.Grid.{one_held}
 use Rattle.cow_pages.specs.Memory.{Memory, is_live, IsShared}
 use Rattle.cow_pages.specs.Tables.{mapped_one, written_one}
-use Rattle.cow_pages.specs.Store.{frame_key, leaf_grid, table_grid, bytes_of, frame_sharers, pages_kept, entry_at, page_of_entry, shown, mapped_kept, written_kept, CountsSlots, HasRoom, IsStore, IsReady}
+use Rattle.cow_pages.specs.Store.{frame_key, leaf_grid, table_grid, bytes_of, frame_sharers, pages_kept, entry_at, page_of_entry, shown, mapped_kept, written_kept, CountsSlots, HasRoom, IsKept, IsStore, IsReady}
 use Rattle.cow_pages.specs.Steps.{SetsOwn, SetsBytes, Recounts, Beside, Ready, AddsRoom, KeepsRoomOf, Maps, OwnsEntry}
 use Rattle.cow_pages.proofs.CodeLemmas.{field-here, field-other}
 use Rattle.cow_pages.proofs.GridLemmas.{one-yes, one-no}
@@ -23,7 +23,7 @@ use Rattle.cow_pages.proofs.CountLemmas.{count-within}
 use Rattle.cow_pages.proofs.SharedLemmas.{frame_held, lone}
 use Rattle.cow_pages.proofs.ShownLemmas.{page_at-shown, one_sharer, is_free}
 use Rattle.cow_pages.proofs.SeenLemmas.{Owned, owned_copied, fresh_entry, lone_free, page_as, ChangesPage-set, ready_pages, live-kept, changes-back, free-back, SamePages, shared-back}
-use Rattle.cow_pages.proofs.SoundLemmas.{entry_within}
+use Rattle.cow_pages.proofs.SoundLemmas.{leaf_total, entry_within}
 use Rattle.cow_pages.proofs.EntryLemmas.{HasRoom-bytes, set_store}
 use Rattle.cow_pages.proofs.SlotLemmas.{slot_is, sets_own, more_sharers, entry_seen, reserved_pages, owns_earlier, owns_later, TookOne, took_frame, took_one}
 
@@ -122,9 +122,10 @@ copied_page s m new t p l f e ready is plain more c =
     let e_there = entry_within s kept ready.room t p e is in
     let live : (u : ℕ) → is_some (get_or new.tables.items u None) ≡ is_some (get_or s.tables.items u None) = λ u. ap (λ (it : Store). is_some (get_or it.tables.items u None)) c.put ∙ ap (λ (it : Store). is_some (get_or it.tables.items u None)) c.took in
     let tables_len : length new.tables.items ≡ length s.tables.items = ap (λ (it : Store). length it.tables.items) c.put ∙ ap (λ (it : Store). length it.tables.items) c.took in
+    let reads : new.reads ≡ s.reads = ap (λ (it : Store). it.reads) c.put ∙ ap (λ (it : Store). it.reads) c.took in
     let room : HasRoom new = HasRoom-bytes s new f (bytes_of s e.frame) ready.room bytes (ready.room.whole e.frame e_there) (ready.room.bytes e.frame e_there) len
     (ap (λ (it : Shares). length it.counts) counts_is ∙ ap (λ (it : List ℕ). length it) c.counts ∙ length-set (set cs f 1) e.frame n ∙ length-set cs f 1)
-    (subst AreTallied (sym counts_is) c.tallied) leaves_is numbers live tables_len grid in
+    (subst AreTallied (sym counts_is) c.tallied) leaves_is numbers live tables_len grid reads in
     let re : Recounts s new t p (Some e) (Some d) = record {
       mapped = λ w. ap (λ (it : Store). mapped_kept it t w + mapped_one w p (Some e)) c.put ∙ ap (λ (it : Store). mapped_kept it t w + mapped_one w p (Some e)) c.took;
       written = λ w.
@@ -141,7 +142,7 @@ copied_page s m new t p l f e ready is plain more c =
       bytes = bytes;
       beside = record {
         live = live;
-        reads = ap (λ (it : Store). it.reads) c.put ∙ ap (λ (it : Store). it.reads) c.took;
+        reads = reads;
         len = len;
       };
       spare = omega (arith, ap (λ (it : Shares). it.spare) counts_is, c.spare);
@@ -155,10 +156,11 @@ pub reserved_live : (s m : Store) (f l : ℕ) → AddsRoom s m f l → (u : ℕ)
 reserved_live s m f l adds u = ap (λ (it : Memory). is_live it u) adds.seen
 
 -- the room after a reserve, a leaf of one's own, and a frame that was taken
-pub took_steps : (s m0 m1 new : Store) → AddsRoom s m0 (1 - s.frame_counts.spare) (1 - s.leaf_counts.spare) → KeepsRoomOf m0 m1 → length m1.frames.items ≡ length m0.frames.items → length new.frames.items ≡ length m1.frames.items
+pub took_steps : (s m0 m1 new : Store) → IsKept m0 → IsKept new → AddsRoom s m0 (1 - s.frame_counts.spare) (1 - s.leaf_counts.spare) → KeepsRoomOf m0 m1 → length m1.frames.items ≡ length m0.frames.items → length new.frames.items ≡ length m1.frames.items
     → new.frame_counts.spare + 1 ≡ m1.frame_counts.spare → new.leaf_counts ≡ m1.leaf_counts → TookOne s new
-took_steps s m0 m1 new adds keeps len1 len2 spare leaves = record {
+took_steps s m0 m1 new kept also adds keeps len1 len2 spare leaves = record {
   len = len2 ∙ len1 ∙ ap (λ (it : Memory). it.frames) adds.seen;
+  leaf_len = leaf_total new also ∙ ap (λ (it : Shares). length it.counts) leaves ∙ keeps.len ∙ sym (leaf_total m0 kept) ∙ ap (λ (it : Memory). it.leaf_count) adds.seen;
   frames = omega (arith, spare, keeps.frames, adds.frames_spare);
   leaves = omega (arith, ap (λ (it : Shares). it.spare) leaves, keeps.leaves, adds.leaves_spare);
 }
@@ -178,7 +180,7 @@ copied_entry s m0 m1 new t p l f e store store0 adds ready1 ready own keeps is s
     let o : Owned m0 new t p l e (fresh_entry f) =
     owned_copied m0 m1 new t p l f e store0.kept ready seen.0 (λ one. omega (arith, more, one)) free c.sets c.bytes c.beside (store.kept.pages.in_window t p e is) in
     let alone = one_sharer new also t p (fresh_entry f) o.there (lone new also t p l (fresh_entry f) o.ready.place (slot_is new t p l (Some (fresh_entry f)) o.ready.place o.there) o.ready.own o.alone) in
-    let took = took_steps s m0 m1 new adds keeps ready.beside.len c.beside.len c.spare c.leaves in
+    let took = took_steps s m0 m1 new store0.kept also adds keeps ready.beside.len c.beside.len c.spare c.leaves in
     record {
       owns = record {
         there = o.there;
@@ -222,7 +224,7 @@ mapped_zero s m0 m1 new t p l store store0 adds ready own keeps also maps =
     let same : SamePages (shown s) (shown m1) = λ u q. same1 u q ∙ same0 u q in
     let live = λ (u : ℕ). live-kept m0 m1 ready.beside u ∙ reserved_live s m0 (1 - s.frame_counts.spare) (1 - s.leaf_counts.spare) adds u in
     let reads = ready.beside.reads ∙ ap (λ (it : Memory). it.reads) adds.seen in
-    let took = took_steps s m0 m1 new adds keeps ready.beside.len maps.beside.len maps.spare maps.leaves in
+    let took = took_steps s m0 m1 new store0.kept also.kept adds keeps ready.beside.len maps.beside.len maps.spare maps.leaves in
     record {
       zeros = record {
         frame = maps.frame;

@@ -26,6 +26,7 @@ use Rattle.cow_pages.proofs.ShownLemmas.{get_or-none}
 use Rattle.cow_pages.proofs.StepLemmas.{leaf-here, leaf-other, only_place, this_or_other}
 use Rattle.cow_pages.proofs.SeenLemmas.{live-shown}
 use Rattle.cow_pages.proofs.SoundLemmas.{leaf_there, leaves_counted}
+use Rattle.cow_pages.proofs.RoomLemmas.{frees_frames}
 use Rattle.cow_pages.proofs.StoreLemmas.{row-length, IsCounted-same, HasRoom-tables}
 use Rattle.cow_pages.proofs.DropLemmas.{dropping_none, dropping_skip, dropping_own, dropping_shared, ends_entries, drop_shown}
 use Rattle.cow_pages.proofs.WindowLemmas.{count-none}
@@ -100,7 +101,7 @@ pub record Left (s new : Store) (t i l : ℕ) : Type 0 where
 pub ending_more : (s mid new : Store) (t i l : ℕ) → Ending s mid t i → Dropping s new t (i + 1) → Left mid new t i l → Ending s new t (i + 1)
 ending_more s mid new t i l e drops left = record {
   drops = drops;
-  room = HasRoom-tables mid new e.room left.frames left.frame_len left.frames_tallied left.leaves_tallied left.numbers left.counts.live left.counts.len left.rows;
+  room = HasRoom-tables mid new e.room left.frames left.frame_len left.frames_tallied left.leaves_tallied left.numbers left.counts.live left.counts.len left.rows left.reads;
   slots = left.slots;
   filled = λ u j k is. elim (this_or_other u t j i) [
     | inl here ↦ absurd (none-some k (sym left.gone ∙ ap (place_at new t) (sym here.1) ∙ ap (λ n. place_at new n j) (sym here.0) ∙ is))
@@ -333,6 +334,7 @@ ended_room m new t room within c =
     let frames = ap (λ (it : Store). length it.frames.items) c.rest in
     record {
       frames = ap (λ (it : Store). length it.frame_counts.counts) c.rest ∙ room.frames ∙ sym frames;
+      reads = omega (arith, room.reads, ap (λ (it : Store). it.reads) c.rest);
       tables =
           omega (
             arith,
@@ -383,28 +385,29 @@ ended s m new t store live e c =
     let entries = ends_entries m new t fin in
     let frames = ap (λ (it : Store). it.frame_counts.spare) c.rest in
     let leaves = ap (λ (it : Store). it.leaf_counts.spare) c.rest in
+    let also : IsStore new = record {
+      kept = seen.kept;
+      room = room;
+      slots = subst (λ (it : Store). CountsSlots it) (sym c.rest) e.slots;
+      filled = λ u j k is. elim (cases_eq u t) [
+        | inl at ↦ absurd (none-some k (sym (ap (λ (r : Row). get_or r j None) row) ∙ ap (λ n. place_at new n j) (sym at) ∙ is))
+        | inr off ↦ omega (arith, ap (λ (it : Store). pages_kept it k) c.rest, e.filled u j k (sym (ap (λ (r : Row). get_or r j None) (rows u off)) ∙ is))
+      ];
+      counted = λ u. elim (cases_eq u t) [
+        | inl at ↦
+            let none : flat new (get_or (table_grid new) t []) ≡ [] = ap (λ (r : Row). flat new r) row in
+            subst (IsCounted new) (sym at)
+            (record {
+              mapped = λ w. ap (λ (o : Option Table). count_in (mapped_counts o) w) here ∙ count-none w ∙ sym (ap (mapped_from w 0) none);
+              written = λ w. ap (λ (o : Option Table). count_in (written_counts o) w) here ∙ count-none w ∙ sym (ap (written_from w 0) none);
+            })
+        | inr off ↦
+            IsCounted-same m new u e.drops.kept seen.kept (λ q. entries u q) (ap (λ (r : Row). length r) (rows u off))
+            (λ w. (ap (λ (o : Option Table). count_in (mapped_counts o) w) (other u off), ap (λ (o : Option Table). count_in (written_counts o) w) (other u off))) (e.counted u off)
+      ];
+    } in
     record {
-      store = record {
-        kept = seen.kept;
-        room = room;
-        slots = subst (λ (it : Store). CountsSlots it) (sym c.rest) e.slots;
-        filled = λ u j k is. elim (cases_eq u t) [
-          | inl at ↦ absurd (none-some k (sym (ap (λ (r : Row). get_or r j None) row) ∙ ap (λ n. place_at new n j) (sym at) ∙ is))
-          | inr off ↦ omega (arith, ap (λ (it : Store). pages_kept it k) c.rest, e.filled u j k (sym (ap (λ (r : Row). get_or r j None) (rows u off)) ∙ is))
-        ];
-        counted = λ u. elim (cases_eq u t) [
-          | inl at ↦
-              let none : flat new (get_or (table_grid new) t []) ≡ [] = ap (λ (r : Row). flat new r) row in
-              subst (IsCounted new) (sym at)
-              (record {
-                mapped = λ w. ap (λ (o : Option Table). count_in (mapped_counts o) w) here ∙ count-none w ∙ sym (ap (mapped_from w 0) none);
-                written = λ w. ap (λ (o : Option Table). count_in (written_counts o) w) here ∙ count-none w ∙ sym (ap (written_from w 0) none);
-              })
-          | inr off ↦
-              IsCounted-same m new u e.drops.kept seen.kept (λ q. entries u q) (ap (λ (r : Row). length r) (rows u off))
-              (λ w. (ap (λ (o : Option Table). count_in (mapped_counts o) w) (other u off), ap (λ (o : Option Table). count_in (written_counts o) w) (other u off))) (e.counted u off)
-        ];
-      };
+      store = also;
       ended = live-shown new new.tables.items t ∙ ap (λ (o : Option Table). is_some o) here;
       rest = seen.rest;
       others = λ u i off. ap (λ (r : Row). get_or r i None) (rows u off) ∙ e.places u i off;
@@ -419,8 +422,8 @@ ended s m new t store live e c =
             leaves,
             e.leaves_spare,
           );
-      room = record {
-        frames = ap (λ (it : Store). length it.frames.items) c.rest ∙ ap (λ (it : Rattle.std.specs.declared.vec.Vec.Vec Frame Rattle.std.specs.declared.alloc.Global.Global). length it.items) e.bytes;
-        spare = omega (arith, frames, leaves, e.frames_spare, e.leaves_spare);
-      };
+      room =
+          frees_frames s new store also
+          (ap (λ (it : Store). length it.frames.items) c.rest ∙ ap (λ (it : Rattle.std.specs.declared.vec.Vec.Vec Frame Rattle.std.specs.declared.alloc.Global.Global). length it.items) e.bytes)
+          (ap (λ (it : Store). length it.leaf_counts.counts) c.rest ∙ e.leaf_len) (omega (arith, frames, e.frames_spare)) (omega (arith, leaves, e.leaves_spare));
     }

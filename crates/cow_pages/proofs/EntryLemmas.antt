@@ -69,8 +69,10 @@ counted_at s t p gone kept live window was rows below is =
 -- room after the bytes of one frame were set
 pub HasRoom-bytes : (s new : Store) (f : ℕ) (bs : List ℕ) → HasRoom s → SetsBytes s new f bs → length bs ≡ 4096 → All (λ b. b < 256) bs → length new.frames.items ≡ length s.frames.items
     → length new.frame_counts.counts ≡ length s.frame_counts.counts → AreTallied new.frame_counts → new.leaf_counts ≡ s.leaf_counts → new.table_counts ≡ s.table_counts
-    → ((u : ℕ) → is_some (get_or new.tables.items u None) ≡ is_some (get_or s.tables.items u None)) → length new.tables.items ≡ length s.tables.items → table_grid new ≡ table_grid s → HasRoom new
-HasRoom-bytes s new f bs room sets whole small len counts tallied leaves numbers live tables grid = record {
+    → ((u : ℕ) → is_some (get_or new.tables.items u None) ≡ is_some (get_or s.tables.items u None)) → length new.tables.items ≡ length s.tables.items → table_grid new ≡ table_grid s → new.reads ≡ s.reads
+    → HasRoom new
+HasRoom-bytes s new f bs room sets whole small len counts tallied leaves numbers live tables grid reads = record {
+  reads = omega (arith, room.reads, reads);
   frames = omega (arith, counts, room.frames, len);
   tables = omega (arith, ap (λ (it : Shares). length it.counts) numbers, room.tables, tables);
   frames_tallied = tallied;

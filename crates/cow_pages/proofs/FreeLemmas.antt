@@ -22,6 +22,7 @@ use Rattle.cow_pages.proofs.StepLemmas.{leaf-here, leaf-other, only_place, this_
 use Rattle.cow_pages.proofs.OpLemmas.{set_entries, leave_entries, leave_kept}
 use Rattle.cow_pages.proofs.SeenLemmas.{ChangesPage-set, page-kept, live-shown}
 use Rattle.cow_pages.proofs.SoundLemmas.{counted, leaves_counted}
+use Rattle.cow_pages.proofs.RoomLemmas.{frees_frames}
 use Rattle.cow_pages.proofs.StoreLemmas.{HasRoom-tables, IsCounted-same, row-length}
 use Rattle.cow_pages.proofs.EntryLemmas.{unset_store, ready_of, store_of}
 use Rattle.cow_pages.proofs.MapLemmas.{recounts-from}
@@ -66,7 +67,8 @@ unmapped_steps s m new t p l e sh store place own is alone c =
     ]) in
     let room : HasRoom new = HasRoom-tables s new store.room frames_is
     (ap (λ (it : Shares). length it.counts) counts_is ∙ ap (λ (cs : List ℕ). length cs) c.counts ∙ length-set s.frame_counts.counts e.frame n)
-    (subst AreTallied (sym counts_is) c.tallied) (subst AreTallied (sym leaves_is) store.room.leaves_tallied) numbers re.live re.len (λ u. ap (λ (g : List Row). length (get_or g u [])) re.grid) in (
+    (subst AreTallied (sym counts_is) c.tallied) (subst AreTallied (sym leaves_is) store.room.leaves_tallied) numbers re.live re.len (λ u. ap (λ (g : List Row). length (get_or g u [])) re.grid)
+    (ap (λ (it : Store). it.reads) c.counted ∙ ap (λ (it : Store). it.reads) c.put) in (
       unset_store s new t p l e ready is sets re room (subst CountsSlots (sym c.counted) c.slots) (λ k off. ap (λ (it : Store). pages_kept it k) c.counted ∙ c.pages k off),
       record {
         entries = set_entries s new t p l None kept sets;
@@ -134,7 +136,7 @@ left_steps s new t i l sh ready none c =
       record {
         kept = also;
         room = HasRoom-tables s new ready.room (ap (λ (it : Store). it.frames) c.rest) (ap (λ (it : Store). length it.frame_counts.counts) c.rest)
-            (subst (λ (it : Store). AreTallied it.frame_counts) (sym c.rest) ready.room.frames_tallied) (subst AreTallied (sym leaf_is) c.tallied) (ap (λ (it : Store). it.table_counts) c.rest) c.keeps.live c.keeps.len rows;
+            (subst (λ (it : Store). AreTallied it.frame_counts) (sym c.rest) ready.room.frames_tallied) (subst AreTallied (sym leaf_is) c.tallied) (ap (λ (it : Store). it.table_counts) c.rest) c.keeps.live c.keeps.len rows (ap (λ (it : Store). it.reads) c.rest);
         slots = subst CountsSlots (sym c.rest) ready.slots;
         filled = λ u j k is. elim (this_or_other u t j i) [
           | inl here ↦ absurd (none-some k (sym (ap (λ m. place_at new m j) here.0 ∙ ap (place_at new t) here.1 ∙ leaf-here s new t i None sets) ∙ is))
@@ -161,18 +163,19 @@ unmapped_page s m t p kept also un = ChangesPage-set s m t p None kept also un.e
 
 -- the leaf has a page still
 pub released_stays : (s m : Store) (t p l : ℕ) → IsStore s → IsReady m t (p / 1024) l → Unmaps s m t p → 0 < pages_kept m l → Released s m t p
-released_stays s m t p l store ready un some = record {
-  store = store_of m t (p / 1024) l ready some;
-  unmapped = page_at-shown m ready.kept t p ∙ ap (option_map (page_of_entry m)) un.entries.here;
-  rest = unmapped_page s m t p store.kept ready.kept un;
-  leaf = record {
-    others = λ u j off. ap (λ (g : List Row). cell g u j) un.grid;
-    here = inl (ap (λ (g : List Row). cell g t (p / 1024)) un.grid);
-    used = omega (arith, ap (λ (g : List Row). distinct_count (leaves_of g)) un.grid);
-  };
-  room = record { frames = un.beside.len; spare = omega (arith, un.spare, ap (λ (it : Shares). it.spare) un.leaves) };
-  freed = omega (arith, counted s store.kept store.room, counted m ready.kept ready.room, un.spare, un.beside.len);
-}
+released_stays s m t p l store ready un some =
+    let also = store_of m t (p / 1024) l ready some in
+    record {
+      store = also;
+      unmapped = page_at-shown m ready.kept t p ∙ ap (option_map (page_of_entry m)) un.entries.here;
+      rest = unmapped_page s m t p store.kept ready.kept un;
+      leaf = record {
+        others = λ u j off. ap (λ (g : List Row). cell g u j) un.grid;
+        here = inl (ap (λ (g : List Row). cell g t (p / 1024)) un.grid, ap (λ (g : List Row). distinct_count (leaves_of g)) un.grid);
+      };
+      room = frees_frames s m store also un.beside.len (ap (λ (it : Shares). length it.counts) un.leaves) (omega (arith, un.spare)) (omega (arith, ap (λ (it : Shares). it.spare) un.leaves));
+      freed = omega (arith, counted s store.kept store.room, counted m ready.kept ready.room, un.spare, un.beside.len);
+    }
 
 -- the leaf went too
 pub released_leaves : (s m new : Store) (t p l : ℕ) → IsStore s → IsReady m t (p / 1024) l → Unmaps s m t p → IsStore new → LeavesPlace m new t (p / 1024) l → new.leaf_counts.spare ≡ m.leaf_counts.spare + 1
@@ -193,17 +196,20 @@ released_leaves s m new t p l store ready un also leaves spare is keeps =
       };
       leaf = record {
         others = λ u j off. leaf-other m new t (p / 1024) u j None leaves.sets off ∙ ap (λ (g : List Row). cell g u j) un.grid;
-        here = inr (leaf-here m new t (p / 1024) None leaves.sets);
-        used = omega (
-          arith,
-          leaves_counted s store.kept store.room,
-          leaves_counted new also.kept also.room,
-          spare,
-          leaves.sets.len,
-          ap (λ (it : Shares). it.spare) un.leaves,
-          ap (λ (it : Shares). length it.counts) un.leaves,
+        here = inr (
+          leaf-here m new t (p / 1024) None leaves.sets,
+          omega (
+            arith,
+            leaves_counted s store.kept store.room,
+            leaves_counted new also.kept also.room,
+            spare,
+            leaves.sets.len,
+            ap (λ (it : Shares). it.spare) un.leaves,
+            ap (λ (it : Shares). length it.counts) un.leaves,
+          ),
         );
       };
-      room = record { frames = len ∙ un.beside.len; spare = omega (arith, un.spare, ap (λ (it : Shares). it.spare) un.leaves, spare, frame_spare) };
+      room = frees_frames s new store also (len ∙ un.beside.len) (leaves.sets.len ∙ ap (λ (it : Shares). length it.counts) un.leaves) (omega (arith, un.spare, frame_spare))
+          (omega (arith, ap (λ (it : Shares). it.spare) un.leaves, spare));
       freed = omega (arith, counted s store.kept store.room, counted new also.kept also.room, un.spare, un.beside.len, frame_spare, len);
     }

@@ -132,6 +132,7 @@ joined_room s new n m room j =
     let items : new.tables.items ≡ s.tables.items = ap (λ (it : Rattle.std.specs.declared.vec.Vec.Vec (Option Table) Rattle.std.specs.declared.alloc.Global.Global). it.items) j.tables in
     record {
       frames = omega (arith, ap (λ (cs : List ℕ). length cs) j.frame_counts, length-append s.frame_counts.counts (replicate n 0), length-replicate {A = ℕ} n 0, room.frames, len);
+      reads = omega (arith, room.reads, j.reads);
       tables = omega (arith, ap (λ (it : Shares). length it.counts) j.numbers, room.tables, ap (λ (ts : List (Option Table)). length ts) items);
       frames_tallied = j.frames_tallied;
       leaves_tallied = j.leaves_tallied;
@@ -202,30 +203,32 @@ tables-same s new kept also tables same bytes =
     ap (pages_from new 0) (ap (λ (g : List Row). flat new (get_or g t [])) (sym grid) ∙ flats)
     ∙ pages_from-same s new (flat s (get_or (table_grid s) t [])) 0 (λ i e is. bytes t i e (sym (entry-flat s kept t i) ∙ is)))
 
-abbrev pub memory_as : List (Option Pages) → List Row → ℕ → ℕ → ℕ → Memory
-memory_as tables leaves frames spare reads = record { tables = tables; leaves = leaves; frames = frames; spare = spare; reads = reads }
+abbrev pub memory_as : List (Option Pages) → List Row → ℕ → ℕ → ℕ → ℕ → Memory
+memory_as tables leaves frames leaf_count spare reads = record { tables = tables; leaves = leaves; frames = frames; leaf_count = leaf_count; spare = spare; reads = reads }
 
 -- memories are the same whose fields are
-pub memory-same : (one two : Memory) → one.tables ≡ two.tables → one.leaves ≡ two.leaves → one.frames ≡ two.frames → one.spare ≡ two.spare → one.reads ≡ two.reads → one ≡ two
-memory-same one two tables leaves frames spare reads =
-    ap (λ (it : List (Option Pages)). memory_as it one.leaves one.frames one.spare one.reads) tables
-    ∙ ap (λ (it : List Row). memory_as two.tables it one.frames one.spare one.reads) leaves
-    ∙ ap (λ (n : ℕ). memory_as two.tables two.leaves n one.spare one.reads) frames
-    ∙ ap (λ (n : ℕ). memory_as two.tables two.leaves two.frames n one.reads) spare
-    ∙ ap (λ (n : ℕ). memory_as two.tables two.leaves two.frames two.spare n) reads
+pub memory-same : (one two : Memory) → one.tables ≡ two.tables → one.leaves ≡ two.leaves → one.frames ≡ two.frames → one.leaf_count ≡ two.leaf_count → one.spare ≡ two.spare → one.reads ≡ two.reads → one ≡ two
+memory-same one two tables leaves frames leaf_count spare reads =
+    ap (λ (it : List (Option Pages)). memory_as it one.leaves one.frames one.leaf_count one.spare one.reads) tables
+    ∙ ap (λ (it : List Row). memory_as two.tables it one.frames one.leaf_count one.spare one.reads) leaves
+    ∙ ap (λ (n : ℕ). memory_as two.tables two.leaves n one.leaf_count one.spare one.reads) frames
+    ∙ ap (λ (n : ℕ). memory_as two.tables two.leaves two.frames n one.spare one.reads) leaf_count
+    ∙ ap (λ (n : ℕ). memory_as two.tables two.leaves two.frames two.leaf_count n one.reads) spare
+    ∙ ap (λ (n : ℕ). memory_as two.tables two.leaves two.frames two.leaf_count two.spare n) reads
 
 pub joined_shown : (s new : Store) (n m : ℕ) → IsStore s → Joins s new n m → new.frame_counts.spare ≡ s.frame_counts.spare + n → new.leaf_counts.spare ≡ s.leaf_counts.spare + m → AddsRoom s new n m
 joined_shown s new n m store j frames leaves =
     let also = joined_kept s new n m store j in
     record {
       seen =
-          memory-same (shown new) (record (shown s) { frames = length s.frames.items + n; spare = min (s.frame_counts.spare + n) (s.leaf_counts.spare + m) })
+          memory-same (shown new) (record (shown s) { frames = length s.frames.items + n; leaf_count = length s.leaves.items + m; spare = min (s.frame_counts.spare + n) (s.leaf_counts.spare + m) })
           (tables-same s new store.kept also (ap (λ (it : Rattle.std.specs.declared.vec.Vec.Vec (Option Table) Rattle.std.specs.declared.alloc.Global.Global). it.items) j.tables) (joined_entries s new n m j)
           (λ u q e is.
           let within = entry_within s store.kept store.room u q e is in
           ap (λ (fs : List Frame). frame_bytes fs e.frame) j.frames ∙ bytes_kept e.frame within))
           (joined_grid s new n m j)
           (omega (arith, ap (λ (fs : List Frame). length fs) j.frames, length-append s.frames.items (replicate n zero_frame), length-replicate n zero_frame))
+          (omega (arith, ap (λ (ls : List Leaf). length ls) j.leaves, length-append s.leaves.items (replicate m no_leaf), length-replicate m no_leaf))
           (ap (λ (k : ℕ). min k new.leaf_counts.spare) frames ∙ ap (λ (k : ℕ). min (s.frame_counts.spare + n) k) leaves)
           j.reads;
       frames_spare = frames;
@@ -283,7 +286,8 @@ took s new store same =
       store = joined_store s new 0 0 store j;
       same =
           adds.seen
-          ∙ memory-same (record (shown s) { frames = length s.frames.items + 0; spare = min (s.frame_counts.spare + 0) (s.leaf_counts.spare + 0) }) (shown s) refl refl (omega arith)
+          ∙ memory-same (record (shown s) { frames = length s.frames.items + 0; leaf_count = length s.leaves.items + 0; spare = min (s.frame_counts.spare + 0) (s.leaf_counts.spare + 0) }) (shown s) refl refl (plus (length s.frames.items))
+          (plus (length s.leaves.items))
           (ap (λ (k : ℕ). min k (s.leaf_counts.spare + 0)) (plus s.frame_counts.spare) ∙ ap (λ (k : ℕ). min s.frame_counts.spare k) (plus s.leaf_counts.spare)) refl;
       spare = (same.frame_spare, same.leaf_spare);
     }
@@ -341,14 +345,14 @@ reserved s m mid new n k store same spare c =
     }
   where
     more : Memory → ℕ → Memory
-    more it spare = record it { frames = it.frames + n; spare = spare }
+    more it spare = record it { frames = it.frames + n; leaf_count = it.leaf_count + k; spare = spare }
 
 -- nothing was wanting
 pub reserved_none : (s : Store) (n k : ℕ) → n ≡ 0 → k ≡ 0 → AddsRoom s s n k
 reserved_none s n k no_frame no_leaf = record {
   seen =
-      memory-same (shown s) (record (shown s) { frames = length s.frames.items + n; spare = min (s.frame_counts.spare + n) (s.leaf_counts.spare + k) }) refl refl
-      (omega (arith, no_frame))
+      memory-same (shown s) (record (shown s) { frames = length s.frames.items + n; leaf_count = length s.leaves.items + k; spare = min (s.frame_counts.spare + n) (s.leaf_counts.spare + k) }) refl refl
+      (same (length s.frames.items) n no_frame) (same (length s.leaves.items) k no_leaf)
       (ap (λ (a : ℕ). min a s.leaf_counts.spare) (same s.frame_counts.spare n no_frame) ∙ ap (λ (b : ℕ). min (s.frame_counts.spare + n) b) (same s.leaf_counts.spare k no_leaf)) refl;
   frames_spare = same s.frame_counts.spare n no_frame;
   leaves_spare = same s.leaf_counts.spare k no_leaf;

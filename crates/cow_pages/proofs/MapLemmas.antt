@@ -101,9 +101,10 @@ mapped_steps s m1 m2 new t p l f ready window unmapped c =
       others = λ g off. ap (λ (fs : List Frame). Rattle.cow_pages.specs.Frame.frame_bytes fs g) items ∙ field-other (λ (it : Frame). it.bytes) s.frames.items f g zero_frame [] off;
     } in
     let numbers : new.table_counts ≡ s.table_counts = ap (λ (it : Store). it.table_counts) c.counted ∙ ap (λ (it : Store). it.table_counts) c.put ∙ ap (λ (it : Store). it.table_counts) c.took in
+    let reads : new.reads ≡ s.reads = ap (λ (it : Store). it.reads) c.counted ∙ ap (λ (it : Store). it.reads) c.put ∙ ap (λ (it : Store). it.reads) c.took in
     let room : HasRoom new = HasRoom-bytes s new f (replicate page_bytes 0) ready.room bytes (length-replicate {A = ℕ} page_bytes 0) (small_zeros page_bytes) len
     (ap (λ (it : Shares). length it.counts) counts_is ∙ ap (λ (cs : List ℕ). length cs) c.holds.counts ∙ length-set s.frame_counts.counts f 1)
-    (subst AreTallied (sym counts_is) c.holds.tallied) leaves_is numbers re.live re.len re.grid in (
+    (subst AreTallied (sym counts_is) c.holds.tallied) leaves_is numbers re.live re.len re.grid reads in (
       set_store s new t p l None e ready window unmapped sets (lone_free s t p f kept c.holds.free) re room (subst CountsSlots (sym c.counted) c.slots)
           (λ k off. ap (λ (it : Store). pages_kept it k) c.counted ∙ c.pages k off ∙ ap (λ (it : Store). pages_kept it k) c.took),
       record {
@@ -113,7 +114,7 @@ mapped_steps s m1 m2 new t p l f ready window unmapped c =
         bytes = bytes;
         beside = record {
           live = re.live;
-          reads = ap (λ (it : Store). it.reads) c.counted ∙ ap (λ (it : Store). it.reads) c.put ∙ ap (λ (it : Store). it.reads) c.took;
+          reads = reads;
           len = len;
         };
         grid = re.grid;

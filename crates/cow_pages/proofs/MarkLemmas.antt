@@ -51,7 +51,8 @@ marked_steps s m new t p l e store place own is alone c =
     sets_own s new t p l (Some (flagged e)) ready (ap (λ (it : Store). leaf_grid it) c.counted ∙ c.grid) re.grid leaves_is
     (λ f. omega (arith, ap (λ (it : Shares). count_of it f) counts_is, ap (λ (o : Option Entry). one_held frame_key o f) there)) in
     let room : HasRoom new = HasRoom-tables s new store.room frames_is (ap (λ (it : Shares). length it.counts) counts_is) (subst AreTallied (sym counts_is) store.room.frames_tallied)
-    (subst AreTallied (sym leaves_is) store.room.leaves_tallied) numbers re.live re.len (λ u. ap (λ (g : List Row). length (get_or g u [])) re.grid) in (
+    (subst AreTallied (sym leaves_is) store.room.leaves_tallied) numbers re.live re.len (λ u. ap (λ (g : List Row). length (get_or g u [])) re.grid)
+    (ap (λ (it : Store). it.reads) c.counted ∙ ap (λ (it : Store). it.reads) c.put) in (
       set_store s new t p l (Some e) (flagged e) ready (kept.pages.in_window t p e is) is sets alone re room (subst CountsSlots (sym c.counted) c.slots)
           (λ k off. ap (λ (it : Store). pages_kept it k) c.counted ∙ c.pages k off),
       record {
@@ -106,7 +107,7 @@ put_store s new f o bs store within room small items rest =
     let room' : HasRoom new = HasRoom-bytes s new f (patched (bytes_of s f) o bs) store.room sets (length-patched (bytes_of s f) o bs fits ∙ whole)
     (small-patched (bytes_of s f) o bs fits (store.room.bytes f within) small) len (ap (λ (it : Shares). length it.counts) counts_is) (subst AreTallied (sym counts_is) store.room.frames_tallied)
     (ap (λ (it : Store). it.leaf_counts) rest) (ap (λ (it : Store). it.table_counts) rest) (λ u. ap (λ (it : Store). is_some (get_or it.tables.items u None)) rest)
-    (ap (λ (it : Store). length it.tables.items) rest) (ap (λ (it : Store). table_grid it) rest) in
+    (ap (λ (it : Store). length it.tables.items) rest) (ap (λ (it : Store). table_grid it) rest) (ap (λ (it : Store). it.reads) rest) in
     (store_frames s new store rest room', record { puts = sets; rest = rest })
 
 -- an entry whose leaf and frame have one sharer each is its table's own
@@ -159,6 +160,7 @@ written_rooms m1 m2 new t p f o own bs one also marks puts =
       ap (λ (it : Store). length it.frame_counts.counts) puts.rest,
       ap (λ (it : Store). length it.frame_counts.counts) marks.rest,
     ))
+    (ap (λ (it : Store). length it.leaf_counts.counts) puts.rest ∙ ap (λ (it : Store). length it.leaf_counts.counts) marks.rest)
     (ap (λ (it : Store). it.frame_counts.spare) puts.rest ∙ ap (λ (it : Store). it.frame_counts.spare) marks.rest)
     (ap (λ (it : Store). it.leaf_counts.spare) puts.rest ∙ ap (λ (it : Store). it.leaf_counts.spare) marks.rest)
     (ap (λ (it : Store). table_grid it) puts.rest ∙ marks.grid)

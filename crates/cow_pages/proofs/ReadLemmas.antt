@@ -1,6 +1,6 @@
 -- What a read, or a look at a table, finds.
-use Rattle.std.proofs.Common.{◌≡◌, ℕ, zero, suc, ◌+◌, ◌<◌, ◌%◌, ◌&&◌, cond, List, [], ◌∷◌, length, get_or, map, Some, None, Option, is_some, IsTrue, count_by, refl, sym, ap, subst, ◌∙◌, inl, inr, arith, add-zero, true≢false}
-use Rattle.std.specs.Prelude.{option_map, slice_index}
+use Rattle.std.proofs.Common.{◌≡◌, ℕ, zero, suc, ◌+◌, ◌<◌, ◌%◌, ◌^◌, ◌&&◌, Bool, true, false, cond, List, [], ◌∷◌, length, get_or, map, Some, None, Option, is_some, IsTrue, count_by, refl, sym, ap, subst, ◌∙◌, inl, inr, arith, add-zero, true≢false}
+use Rattle.std.specs.Prelude.{◌-◌, min, option_map, slice_index}
 use Rattle.std.proofs.lemmas.List.{get_or-map, get_or_past}
 use Rattle.std.proofs.lemmas.Bool.{cases_lt}
 use Rattle.std.proofs.lemmas.Option.{none-some}
@@ -9,7 +9,8 @@ use Rattle.cow_pages.specs.declared.frame.Frame.{Frame}
 use Rattle.cow_pages.specs.declared.leaf.Entry.{Entry}
 use Rattle.cow_pages.specs.declared.table.Table.{Table}
 use Rattle.cow_pages.specs.declared.store.Store.{Store}
-use Rattle.cow_pages.specs.Address.{is_in, page_of, offset_of}
+use Rattle.cow_pages.specs.Address.{is_in, is_immune, page_of, offset_of}
+use Rattle.cow_pages.specs.Change.{reads_after}
 use Rattle.cow_pages.specs.Memory.{Page, page_at, frame_at, is_mapped, is_live, mapped_in, written_in}
 use Rattle.cow_pages.specs.View.{byte_at, byte_in, bytes_at, view_of}
 use Rattle.cow_pages.specs.Frame.{frame_bytes}
@@ -22,11 +23,12 @@ use Rattle.cow_pages.proofs.SeenLemmas.{live-shown}
 use Rattle.cow_pages.proofs.SoundLemmas.{behind, entry_within}
 
 -- a store whose reads alone differ
-pub IsStore-reads : (s : Store) (n : ℕ) → IsStore s → IsStore (record s { reads = n })
-IsStore-reads s n store = record {
+pub IsStore-reads : (s : Store) (n : ℕ) → IsStore s → n < 2 ^ 64 → IsStore (record s { reads = n })
+IsStore-reads s n store fits = record {
   kept = kept_reads s (record s { reads = n }) refl store.kept;
   room = record {
     frames = store.room.frames;
+    reads = fits;
     tables = store.room.tables;
     frames_tallied = store.room.frames_tallied;
     leaves_tallied = store.room.leaves_tallied;
@@ -40,6 +42,18 @@ IsStore-reads s n store = record {
   filled = store.filled;
   counted = λ t. record { mapped = (store.counted t).mapped; written = (store.counted t).written };
 }
+
+-- the reads fit still after one more
+pub reads_fit : (reads at : ℕ) → reads < 2 ^ 64 → reads_after reads at < 2 ^ 64
+reads_fit reads at fits = by_window (is_immune at)
+  where
+    by_window : (b : Bool) → cond b (min (reads + 1) (2 ^ 64 - 1)) reads < 2 ^ 64
+    by_window true = omega arith
+    by_window false = fits
+
+-- and the store holds
+pub counted_read : (s : Store) (at : ℕ) → IsStore s → IsStore (record s { reads = reads_after s.reads at })
+counted_read s at store = IsStore-reads s (reads_after s.reads at) store (reads_fit s.reads at store.room.reads)
 
 -- a table of the store is live where it is shown as live
 pub live_there : (s : Store) (t : ℕ) → IsTrue (is_live (shown s) t) → IsTrue (is_some (get_or s.tables.items t None))

@@ -15,7 +15,7 @@ use Rattle.cow_pages.specs.Counts.{count_in}
 use Rattle.cow_pages.specs.Leaf.{cleared}
 use Rattle.cow_pages.specs.Tables.{mapped_from, written_from}
 use Rattle.cow_pages.specs.Grid.{cell, held}
-use Rattle.cow_pages.specs.Store.{Row, frame_key, leaf_grid, table_grid, table_entries, bytes_of, frame_sharers, leaf_sharers, pages_kept, place_at, entry_in, entry_at, page_of_entry, mapped_counts, written_counts, mapped_kept, written_kept, shown, spare_of, CountsSlots, IsCounted, HasPages, IsKept, IsStore}
+use Rattle.cow_pages.specs.Store.{Row, frame_key, leaf_grid, table_grid, table_entries, bytes_of, frame_sharers, leaf_sharers, pages_kept, place_at, entry_in, entry_at, page_of_entry, mapped_counts, written_counts, mapped_kept, written_kept, shown, CountsSlots, IsCounted, HasPages, IsKept, IsStore}
 use Rattle.cow_pages.specs.Steps.{SetsLeaf, KeepsTables, SameEntries, SettlesLeaf, Settling, ClearsWritten}
 use Rattle.cow_pages.proofs.LeafLemmas.{cleared-at, mapped-cleared, written-cleared}
 use Rattle.cow_pages.proofs.SharedLemmas.{leaf_held, leaf_within, leaf_length, shared_leaf}
@@ -24,6 +24,7 @@ use Rattle.cow_pages.proofs.StepLemmas.{HasPages-fewer, frames-leaf, frames-same
 use Rattle.cow_pages.proofs.OpLemmas.{whole-same, whole-set}
 use Rattle.cow_pages.proofs.FlatLemmas.{same_row, length-flat, entry-flat}
 use Rattle.cow_pages.proofs.SeenLemmas.{page-kept, live-shown}
+use Rattle.cow_pages.proofs.RoomLemmas.{keeps_room}
 use Rattle.cow_pages.proofs.StoreLemmas.{IsCounted-same, HasRoom-tables}
 
 pub held-cleared : (es : List (Option Entry)) (f : ℕ) → held frame_key (map cleared es) f ≡ held frame_key es f
@@ -268,55 +269,59 @@ settles s m new t store live inv clear =
       length-map (table_entries s t) cleared,
     ))
     (λ q. entry-flat new also t q ∙ here q ∙ ap cleared (sym (entry-flat s kept t q)) ∙ sym (cleared-at (table_entries s t) q)) in
+    let reads : new.reads ≡ s.reads = ap (λ (it : Store). it.reads) clear.rest ∙ ap (λ (it : Store). it.reads) inv.rest in
+    let sets : IsStore new = record {
+      kept = also;
+      room =
+          HasRoom-tables s new store.room (ap (λ (it : Store). it.frames) clear.rest ∙ ap (λ (it : Store). it.frames) inv.rest)
+          (ap (λ (it : Store). length it.frame_counts.counts) clear.rest ∙ ap (λ (it : Store). length it.frame_counts.counts) inv.rest)
+          (subst (λ (it : Shares). Rattle.sharers.specs.Shares.AreTallied it) (sym (ap (λ (it : Store). it.frame_counts) clear.rest ∙ ap (λ (it : Store). it.frame_counts) inv.rest)) store.room.frames_tallied)
+          (subst (λ (it : Shares). Rattle.sharers.specs.Shares.AreTallied it) (sym (ap (λ (it : Store). it.leaf_counts) clear.rest ∙ ap (λ (it : Store). it.leaf_counts) inv.rest)) store.room.leaves_tallied)
+          (ap (λ (it : Store). it.table_counts) clear.rest ∙ ap (λ (it : Store). it.table_counts) inv.rest)
+          alive (clear.len ∙ ap (λ (it : Store). length it.tables.items) inv.rest) rows reads;
+      slots = subst (λ (it : Store). CountsSlots it) (sym clear.rest) inv.slots;
+      filled = λ u i l is.
+          omega (
+            arith,
+            ap (λ (it : Store). pages_kept it l) clear.rest,
+            inv.pages l,
+            store.filled u i l (sym (ap (λ (g : List Row). cell g u i) grid) ∙ is),
+          );
+      counted = λ u. elim (cases_eq u t) [
+        | inl at ↦
+            subst (IsCounted new) (sym at)
+            (record {
+              mapped = λ w.
+                  clear.mapped w ∙ ap (λ (it : Store). mapped_kept it t w) inv.rest ∙ (store.counted t).mapped w
+                  ∙ sym (ap (mapped_from w 0) row ∙ mapped-cleared w 0 (table_entries s t));
+              written = λ w. clear.written w ∙ sym (ap (written_from w 0) row ∙ written-cleared w 0 (table_entries s t));
+            })
+        | inr off ↦
+            IsCounted-same s new u kept also (λ q. others u q off) (rows u)
+            (λ w. (
+              ap (λ (o : Option Table). count_in (mapped_counts o) w) (clear.others u off) ∙ ap (λ (it : Store). mapped_kept it u w) inv.rest,
+              ap (λ (o : Option Table). count_in (written_counts o) w) (clear.others u off) ∙ ap (λ (it : Store). written_kept it u w) inv.rest,
+            )) (store.counted u)
+      ];
+    } in
     record {
-      store = record {
-        kept = also;
-        room =
-            HasRoom-tables s new store.room (ap (λ (it : Store). it.frames) clear.rest ∙ ap (λ (it : Store). it.frames) inv.rest)
-            (ap (λ (it : Store). length it.frame_counts.counts) clear.rest ∙ ap (λ (it : Store). length it.frame_counts.counts) inv.rest)
-            (subst (λ (it : Shares). Rattle.sharers.specs.Shares.AreTallied it) (sym (ap (λ (it : Store). it.frame_counts) clear.rest ∙ ap (λ (it : Store). it.frame_counts) inv.rest)) store.room.frames_tallied)
-            (subst (λ (it : Shares). Rattle.sharers.specs.Shares.AreTallied it) (sym (ap (λ (it : Store). it.leaf_counts) clear.rest ∙ ap (λ (it : Store). it.leaf_counts) inv.rest)) store.room.leaves_tallied)
-            (ap (λ (it : Store). it.table_counts) clear.rest ∙ ap (λ (it : Store). it.table_counts) inv.rest)
-            alive (clear.len ∙ ap (λ (it : Store). length it.tables.items) inv.rest) rows;
-        slots = subst (λ (it : Store). CountsSlots it) (sym clear.rest) inv.slots;
-        filled = λ u i l is.
-            omega (
-              arith,
-              ap (λ (it : Store). pages_kept it l) clear.rest,
-              inv.pages l,
-              store.filled u i l (sym (ap (λ (g : List Row). cell g u i) grid) ∙ is),
-            );
-        counted = λ u. elim (cases_eq u t) [
-          | inl at ↦
-              subst (IsCounted new) (sym at)
-              (record {
-                mapped = λ w.
-                    clear.mapped w ∙ ap (λ (it : Store). mapped_kept it t w) inv.rest ∙ (store.counted t).mapped w
-                    ∙ sym (ap (mapped_from w 0) row ∙ mapped-cleared w 0 (table_entries s t));
-                written = λ w. clear.written w ∙ sym (ap (written_from w 0) row ∙ written-cleared w 0 (table_entries s t));
-              })
-          | inr off ↦
-              IsCounted-same s new u kept also (λ q. others u q off) (rows u)
-              (λ w. (
-                ap (λ (o : Option Table). count_in (mapped_counts o) w) (clear.others u off) ∙ ap (λ (it : Store). mapped_kept it u w) inv.rest,
-                ap (λ (o : Option Table). count_in (written_counts o) w) (clear.others u off) ∙ ap (λ (it : Store). written_kept it u w) inv.rest,
-              )) (store.counted u)
-        ];
-      };
+      store = sets;
       live = live-shown new new.tables.items t ∙ alive t ∙ live;
       pages = λ p.
           page_at-shown new also t p ∙ ap (option_map (page_of_entry new)) (here p) ∙ by_entry bytes (entry_at s t p) ∙ ap settled (sym (page_at-shown s kept t p));
       rest = record {
         others = λ u q off. page-kept s new kept also u q u q (others u q off) (λ e is. bytes e.frame);
         live = λ u off. live-shown new new.tables.items u ∙ alive u ∙ sym (live-shown s s.tables.items u);
-        reads = ap (λ (it : Store). it.reads) clear.rest ∙ ap (λ (it : Store). it.reads) inv.rest;
+        reads = reads;
       };
       leaves = λ u i. ap (λ (g : List Row). cell g u i) grid;
       used = ap (λ (g : List Row). distinct_count (leaves_of g)) grid;
-      room = record {
-        frames = ap (λ (it : Store). length it.frames.items) clear.rest ∙ ap (λ (it : Store). length it.frames.items) inv.rest;
-        spare = ap (λ (it : Store). spare_of it) clear.rest ∙ ap (λ (it : Store). spare_of it) inv.rest;
-      };
+      room =
+          keeps_room s new store sets
+          (ap (λ (it : Store). length it.frames.items) clear.rest ∙ ap (λ (it : Store). length it.frames.items) inv.rest)
+          (ap (λ (it : Store). length it.leaf_counts.counts) clear.rest ∙ ap (λ (it : Store). length it.leaf_counts.counts) inv.rest)
+          (ap (λ (it : Store). it.frame_counts.spare) clear.rest ∙ ap (λ (it : Store). it.frame_counts.spare) inv.rest)
+          (ap (λ (it : Store). it.leaf_counts.spare) clear.rest ∙ ap (λ (it : Store). it.leaf_counts.spare) inv.rest);
     }
   where
     page_as : List ℕ → ℕ → Page

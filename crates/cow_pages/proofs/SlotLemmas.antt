@@ -1,6 +1,6 @@
 -- A store after a slot of a leaf of a table's own was set, and what two steps after one another show.
 use Rattle.std.proofs.Common.{◌≡◌, ◌≢◌, ◌⊎◌, ℕ, ◌+◌, ◌-◌, ◌<◌, ◌≤◌, ◌/◌, ◌%◌, Bool, true, false, List, [], length, get_or, set, Some, None, Option, is_some, refl, sym, ap, ◌∙◌, inl, inr, arith}
-use Rattle.std.specs.Prelude.{min, option_map}
+use Rattle.std.specs.Prelude.{option_map}
 use Rattle.std.proofs.lemmas.Nat.{mod_below}
 use Rattle.std.proofs.lemmas.Option.{none-some, same_Some}
 use Rattle.sharers.specs.Shares.{Shares}
@@ -14,7 +14,7 @@ use Rattle.cow_pages.specs.Change.{OwnsLeaf, TakesOnCopy, TakesFrame, TakesOne}
 use Rattle.cow_pages.specs.Tables.{window_of}
 use Rattle.cow_pages.specs.Store.{Row, frame_key, leaf_grid, table_grid, bytes_of, frame_sharers, leaf_sharers, place_at, entry_in, entry_at, mapped_counts, written_counts, page_of_entry, shown, IsKept, IsStore, IsReady}
 use Rattle.cow_pages.specs.Steps.{Lone, SetsOwn, IsCountedAt, AddsRoom}
-use Rattle.cow_pages.proofs.RoomLemmas.{not_shared}
+use Rattle.cow_pages.proofs.RoomLemmas.{not_shared, keeps_room}
 use Rattle.cow_pages.proofs.SharedLemmas.{leaf_held, leaf_within, leaf_length, frame_held}
 use Rattle.cow_pages.proofs.ShownLemmas.{page_at-shown, frame-shown, one_or_more}
 use Rattle.cow_pages.proofs.SeenLemmas.{SamePages}
@@ -96,28 +96,42 @@ counted_at-same s m t p gone same is =
 -- what frames and leaves a memory has, and which are used, is as it was
 pub record SameRooms (old new : Memory) : Type 0 where
   pub frames : new.frames ≡ old.frames
+  pub leaf_count : new.leaf_count ≡ old.leaf_count
   pub spare : new.spare ≡ old.spare
   pub used : used_frames new ≡ used_frames old
   pub leaves : new.leaves ≡ old.leaves
 
-pub same_rooms : (s new : Store) → IsStore s → IsStore new → length new.frames.items ≡ length s.frames.items → new.frame_counts.spare ≡ s.frame_counts.spare → new.leaf_counts.spare ≡ s.leaf_counts.spare → table_grid new ≡ table_grid s
-    → SameRooms (shown s) (shown new)
-same_rooms s new store also len frames leaves grid = record {
-  frames = len;
-  spare = ap (λ n. min n new.leaf_counts.spare) frames ∙ ap (min s.frame_counts.spare) leaves;
-  used = omega (arith, counted s store.kept store.room, counted new also.kept also.room, len, frames);
-  leaves = grid;
-}
+pub same_rooms : (s new : Store) → IsStore s → IsStore new → length new.frames.items ≡ length s.frames.items → length new.leaf_counts.counts ≡ length s.leaf_counts.counts → new.frame_counts.spare ≡ s.frame_counts.spare
+    → new.leaf_counts.spare ≡ s.leaf_counts.spare → table_grid new ≡ table_grid s → SameRooms (shown s) (shown new)
+same_rooms s new store also len leaf_len frames leaves grid =
+    let k = keeps_room s new store also len leaf_len frames leaves in
+    record { frames = k.frames; leaf_count = k.leaf_count; spare = k.spare; used = k.used; leaves = grid }
 
 pub takes_later : (old mid new : Memory) (t p : ℕ) → SameRooms mid new → TakesOnCopy old mid t p → TakesOnCopy old new t p
 takes_later old mid new t p same takes = record {
   copied = record {
     spare = omega (arith, takes.copied.spare, same.spare);
-    had_spare = λ some. same.frames ∙ takes.copied.had_spare some;
+    had_spare = λ some. let k = takes.copied.had_spare some in (same.frames ∙ k.0, same.leaf_count ∙ k.1);
     frames = omega (arith, takes.copied.frames, same.frames);
+    leaf_count = omega (arith, takes.copied.leaf_count, same.leaf_count);
   };
-  in_place = λ one. let k = takes.in_place one in record { frames = same.frames ∙ k.frames; spare = same.spare ∙ k.spare };
-  one = λ shared. let k = takes.one shared in record { spare = omega (arith, k.spare, same.spare); frames = omega (arith, k.frames, same.frames); used = same.used ∙ k.used };
+  in_place = λ one.
+      let k = takes.in_place one in
+      record {
+        frames = same.frames ∙ k.frames;
+        leaf_count = same.leaf_count ∙ k.leaf_count;
+        spare = same.spare ∙ k.spare;
+        used = same.used ∙ k.used;
+        used_leaves = ap (λ (g : List Row). distinct_count (leaves_of g)) same.leaves ∙ k.used_leaves;
+      };
+  one = λ shared.
+      let k = takes.one shared in
+      record {
+        spare = omega (arith, k.spare, same.spare);
+        frames = omega (arith, k.frames, same.frames);
+        leaf_count = omega (arith, k.leaf_count, same.leaf_count);
+        used = same.used ∙ k.used;
+      };
 }
 
 pub owns_later : (old mid new : Memory) (t i : ℕ) → new.leaves ≡ mid.leaves → OwnsLeaf old mid t i → OwnsLeaf old new t i
@@ -131,6 +145,7 @@ owns_later old mid new t i same o =
       alone = λ u at. o.alone u (sym (in_new u i) ∙ at ∙ in_new t i);
       own = λ there alone. let k = o.own there alone in (k.0, used ∙ k.1);
       shared = λ how. let k = o.shared how in (k.0, used ∙ k.1);
+      taken = elim o.taken [ inl stays ↦ inl (stays.0, used ∙ stays.1) | inr came ↦ inr (came.0, used ∙ came.1) ];
     }
 
 pub owns_earlier : (old mid new : Memory) (t i : ℕ) → mid.leaves ≡ old.leaves → OwnsLeaf mid new t i → OwnsLeaf old new t i
@@ -151,13 +166,17 @@ owns_earlier old mid new t i same o =
             | inr none ↦ inr (in_mid t i ∙ none)
           ]) in
           (λ u j at. k.0 u j (in_mid u j ∙ at), k.1 ∙ ap (λ n. n + 1) used);
+      taken = elim o.taken [
+        | inl stays ↦ inl (sym (in_mid t i) ∙ stays.0, stays.1 ∙ used)
+        | inr came ↦ inr (λ u j at. came.0 u j (in_mid u j ∙ at), came.1 ∙ ap (λ n. n + 1) used)
+      ];
     }
 
 -- nothing was taken
 pub takes_none : (m : Memory) (t p : ℕ) → HasOneSharer m t p → TakesOnCopy m m t p
 takes_none m t p one = record {
-  copied = record { spare = omega arith; had_spare = λ some. refl; frames = omega arith };
-  in_place = λ also. record { frames = refl; spare = refl };
+  copied = record { spare = omega arith; had_spare = λ some. (refl, refl); frames = omega arith; leaf_count = omega arith };
+  in_place = λ also. record { frames = refl; leaf_count = refl; spare = refl; used = refl; used_leaves = refl };
   one = λ shared. absurd (not_shared m t p one shared);
 }
 
@@ -166,20 +185,23 @@ takes_none m t p one = record {
 -- a frame was taken, and a leaf at most, made where none was free
 pub record TookOne (s new : Store) : Type 0 where
   pub len : length new.frames.items ≡ length s.frames.items + (1 - s.frame_counts.spare)
+  pub leaf_len : length new.leaves.items ≡ length s.leaves.items + (1 - s.leaf_counts.spare)
   pub frames : new.frame_counts.spare + 1 ≡ s.frame_counts.spare + (1 - s.frame_counts.spare)
   pub leaves : s.leaf_counts.spare + (1 - s.leaf_counts.spare) ≤ new.leaf_counts.spare + 1
 
 pub took_frame : (s new : Store) → TookOne s new → TakesFrame (shown s) (shown new)
 took_frame s new took = record {
   spare = omega (arith, took.frames, took.leaves);
-  had_spare = λ some. omega (arith, took.len, some);
+  had_spare = λ some. (omega (arith, took.len, some), omega (arith, took.leaf_len, some));
   frames = omega (arith, took.len);
+  leaf_count = omega (arith, took.leaf_len);
 }
 
 pub took_one : (s new : Store) → IsStore s → IsStore new → TookOne s new → TakesOne (shown s) (shown new)
 took_one s new store also took = record {
   spare = omega (arith, took.frames, took.leaves);
   frames = omega (arith, took.len);
+  leaf_count = omega (arith, took.leaf_len);
   used = omega (arith, counted s store.kept store.room, counted new also.kept also.room, took.len, took.frames);
 }
 

@@ -1,6 +1,6 @@
 -- What holds of the memory that a store shows.
 use Rattle.std.proofs.Common.{◌≡◌, ◌≢◌, ℕ, zero, suc, ◌+◌, ◌<◌, ◌≤◌, ◌*◌, ◌/◌, ◌%◌, Bool, true, false, cond, List, [], ◌∷◌, length, get_or, Some, None, Option, count_by, is_some, IsTrue, refl, sym, ap, subst, ◌∙◌, inl, inr, arith, eqb, zero-add, add-zero, true≢false}
-use Rattle.std.specs.Prelude.{option_map, All}
+use Rattle.std.specs.Prelude.{◌-◌, option_map, min, All}
 use Rattle.std.proofs.lemmas.List.{length-map}
 use Rattle.std.proofs.lemmas.Bool.{cases_eq, cases_lt, eq-eqb, ne_eqb, cond-true, cond-false}
 use Rattle.std.proofs.lemmas.Nat.{div-mul-add, mod_below}
@@ -122,6 +122,13 @@ leaves_counted s kept room =
     let same = zeros-same (holders all) (leaf_sharers s) 0 n (λ i none. omega (arith, none, is i)) (λ i none. omega (arith, none, is i)) in
     omega (arith, total, same, free, room.leaves_tallied.spare)
 
+-- the same of all leaves
+pub leaf_total : (s : Store) → IsKept s → length s.leaves.items ≡ length s.leaf_counts.counts
+leaf_total s kept = omega (arith, kept.whole.count, length-map s.leaves.items (λ (it : Leaf). it.entries))
+
+pub all_leaves : (s : Store) → IsKept s → HasRoom s → used_leaves (shown s) + s.leaf_counts.spare ≡ length s.leaves.items
+all_leaves s kept room = leaves_counted s kept room ∙ sym (leaf_total s kept)
+
 -- an entry of a leaf that has a page
 pub leaf_page : (s : Store) → IsKept s → CountsSlots s → (t i l : ℕ) → place_at s t i ≡ Some l → 0 < pages_kept s l → (a : ℕ) × (e : Entry) × ((a < 1024) × (cell (leaf_grid s) l a ≡ Some e))
 leaf_page s kept slots t i l place some =
@@ -177,7 +184,13 @@ sound s store =
           one_sharer s kept t p b.entry b.is
           (λ u q d at same.
           (sym (kept.pages.alone t p u q b.entry d b.is at (sym same) (ap (λ (it : Page). it.written) b.shows ∙ w.1.1)), sym (kept.pages.same_page t p u q b.entry d b.is at (sym same))));
-      counted = omega (arith, counted s kept room);
+      frames_counted = omega (arith, counted s kept room);
+      leaves_counted = omega (arith, all_leaves s kept room);
+      spare_is =
+          let frames : s.frame_counts.spare ≡ length s.frames.items - used_frames (shown s) = omega (arith, counted s kept room) in
+          let leaves : s.leaf_counts.spare ≡ length s.leaves.items - used_leaves (shown s) = omega (arith, all_leaves s kept room) in
+          ap (λ (n : ℕ). min n s.leaf_counts.spare) frames ∙ ap (λ (n : ℕ). min (length s.frames.items - used_frames (shown s)) n) leaves;
+      reads_fit = room.reads;
       leaf_there = λ t p is. let e = entry_of t p (page_at (shown s) t p) refl is in ap (λ (o : Option ℕ). is_some o) (stands s t p e.0 e.1).place;
       leaf_filled = λ t i l place.
           let f = leaf_page s kept store.slots t i l place (store.filled t i l place) in

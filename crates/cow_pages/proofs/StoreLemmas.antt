@@ -8,7 +8,7 @@ use Rattle.sharers.specs.Shares.{Shares, AreTallied}
 use Rattle.cow_pages.specs.declared.address.Window.{Window}
 use Rattle.cow_pages.specs.declared.leaf.Entry.{Entry}
 use Rattle.cow_pages.specs.declared.store.Store.{Store}
-use Rattle.cow_pages.specs.Memory.{HasOwnLeaf, HasSharedLeaf, IsFreeLeaf}
+use Rattle.cow_pages.specs.Memory.{HasOwnLeaf, HasSharedLeaf, IsFreeLeaf, used_leaves}
 use Rattle.cow_pages.specs.Change.{OwnsLeaf}
 use Rattle.cow_pages.specs.Tables.{mapped_from, written_from}
 use Rattle.cow_pages.specs.Grid.{held, one_held, all_held}
@@ -49,8 +49,9 @@ IsCounted-same s new u kept also same len counts is =
 -- frames and their counts may not have changed; tables have the same numbers and rows of the same lengths
 pub HasRoom-tables : (s new : Store) → HasRoom s → new.frames ≡ s.frames → length new.frame_counts.counts ≡ length s.frame_counts.counts → AreTallied new.frame_counts → AreTallied new.leaf_counts
     → new.table_counts ≡ s.table_counts → ((u : ℕ) → is_some (get_or new.tables.items u None) ≡ is_some (get_or s.tables.items u None)) → length new.tables.items ≡ length s.tables.items
-    → ((u : ℕ) → length (get_or (table_grid new) u []) ≡ length (get_or (table_grid s) u [])) → HasRoom new
-HasRoom-tables s new room frames counts frames_tallied leaves_tallied numbers live len rows = record {
+    → ((u : ℕ) → length (get_or (table_grid new) u []) ≡ length (get_or (table_grid s) u [])) → new.reads ≡ s.reads → HasRoom new
+HasRoom-tables s new room frames counts frames_tallied leaves_tallied numbers live len rows reads = record {
+  reads = omega (arith, room.reads, reads);
   frames = omega (arith, counts, room.frames, ap (λ (it : Rattle.std.specs.declared.vec.Vec.Vec Rattle.cow_pages.specs.declared.frame.Frame.Frame Rattle.std.specs.declared.alloc.Global.Global). length it.items) frames);
   tables = omega (arith, ap (λ (it : Shares). length it.counts) numbers, room.tables, len);
   frames_tallied = frames_tallied;
@@ -100,6 +101,7 @@ owns_same s store t i l place own = record {
     | inl other ↦ absurd (other.1 (has_own s store.kept t i l place own other.0 other.2))
     | inr none ↦ absurd (none-some l (sym none ∙ place))
   ];
+  taken = inl (place, refl);
 }
 
 pub owns_free : (s new : Store) (t i m : ℕ) → IsKept s → HasRoom s → IsKept new → HasRoom new → SetsPlace s new t i (Some m) → leaf_sharers s m ≡ 0 → new.leaf_counts.spare + 1 ≡ s.leaf_counts.spare
@@ -116,11 +118,12 @@ owns_free s new t i m kept room also room' sets free spare how = record {
     | inl none ↦ absurd (there none)
     | inr other ↦ absurd (other.1 (alone other.0 other.2))
   ];
-  shared = λ was. (
-    is_free_leaf s kept m free,
-    omega (arith, leaves_counted s kept room, leaves_counted new also room', spare, sets.len),
-  );
+  shared = λ was. (is_free_leaf s kept m free, one_more);
+  taken = inr (is_free_leaf s kept m free, one_more);
 }
+  where
+    one_more : used_leaves (shown new) ≡ used_leaves (shown s) + 1
+    one_more = omega (arith, leaves_counted s kept room, leaves_counted new also room', spare, sets.len)
 
 -- what a call leaves that gave a table a leaf of its own
 pub record Readied (s new : Store) (t i m : ℕ) : Type 0 where
@@ -142,7 +145,7 @@ readied_same s store t i l place own = record {
   };
   same = ready_own s t i l store.kept place own;
   leaf = owns_same s store t i l place own;
-  room = record { frames = refl; leaves = omega arith };
+  room = record { len = refl; frames = refl; leaves = omega arith };
 }
 
 -- what else stays as it was where a free leaf was given
@@ -163,7 +166,7 @@ pub readied_free : (s new : Store) (t i m : ℕ) → IsStore s → IsKept new �
     → ((place_at s t i ≡ None) ⊎ HasSharedLeaf (shown s) t i) → Readied s new t i m
 readied_free s new t i m store also same sets free own b how =
     let rows = row-length s new t i (Some m) sets in
-    let room : HasRoom new = HasRoom-tables s new store.room b.frames b.frame_len b.frames_tallied b.leaves_tallied b.numbers b.counts.live b.counts.len rows in
+    let room : HasRoom new = HasRoom-tables s new store.room b.frames b.frame_len b.frames_tallied b.leaves_tallied b.numbers b.counts.live b.counts.len rows b.reads in
     record {
       ready = record {
         kept = also;
@@ -190,7 +193,7 @@ readied_free s new t i m store also same sets free own b how =
         };
       };
       leaf = owns_free s new t i m store.kept store.room also room sets free b.leaf_spare how;
-      room = record { frames = b.frame_spare; leaves = omega (arith, b.leaf_spare) };
+      room = record { len = sets.len; frames = b.frame_spare; leaves = omega (arith, b.leaf_spare) };
     }
 
 -- a free leaf was put at an index where there was none

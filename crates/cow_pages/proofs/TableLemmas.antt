@@ -1,6 +1,6 @@
 -- A store to which a table joined.
 use Rattle.std.proofs.Common.{◌≡◌, ◌≢◌, ℕ, zero, suc, ◌+◌, ◌*◌, ◌^◌, ◌<◌, ◌≤◌, ◌/◌, ◌%◌, ◌++◌, cond, false, List, [], ◌∷◌, length, map, get_or, set, Some, None, Option, is_some, IsTrue, refl, sym, ap, subst, ◌∙◌, inl, inr, arith}
-use Rattle.std.specs.Prelude.{All, replicate, min, option_map}
+use Rattle.std.specs.Prelude.{All, replicate, option_map}
 use Rattle.std.proofs.lemmas.List.{length-append, length-replicate, length-map, length-set, map-set, get_or-map, get_or-set_same, get_or-set_other}
 use Rattle.std.proofs.lemmas.Bool.{cases_eq}
 use Rattle.std.proofs.lemmas.Option.{none-some}
@@ -26,6 +26,7 @@ use Rattle.cow_pages.proofs.OpLemmas.{whole-same, fork_entries, fork_kept}
 use Rattle.cow_pages.proofs.FlatLemmas.{entry-flat}
 use Rattle.cow_pages.proofs.SeenLemmas.{page-kept, live-shown, settled_entries}
 use Rattle.cow_pages.proofs.SoundLemmas.{leaves_counted}
+use Rattle.cow_pages.proofs.RoomLemmas.{keeps_room}
 use Rattle.cow_pages.proofs.StoreLemmas.{IsCounted-same}
 use Rattle.cow_pages.proofs.SharedLemmas.{leaf_held, leaf_within}
 use Rattle.cow_pages.proofs.ReadLemmas.{grid_row}
@@ -86,6 +87,7 @@ widened_store s new n store w =
       kept = also;
       room = record {
         frames = ap (λ (it : Store). length it.frame_counts.counts) w.rest ∙ room.frames ∙ sym (ap (λ (it : Store). length it.frames.items) w.rest);
+        reads = omega (arith, room.reads, ap (λ (it : Store). it.reads) w.rest);
         tables =
             omega (
               arith,
@@ -143,6 +145,7 @@ seems_shown s new kept also seems tables =
     (tables-same s new kept also tables (seems_entries s new seems) (λ u q e is. ap (λ (it : Store). bytes_of it e.frame) seems.rest))
     (ap (λ (ts : List (Option Table)). map row_of ts) tables)
     (ap (λ (it : Store). length it.frames.items) seems.rest)
+    (ap (λ (it : Store). length it.leaves.items) seems.rest)
     (ap (λ (it : Store). spare_of it) seems.rest)
     (ap (λ (it : Store). it.reads) seems.rest)
 
@@ -210,6 +213,7 @@ adds_room s new u table room a rows =
     let fs = ap (λ (it : Rattle.std.specs.declared.vec.Vec.Vec Rattle.cow_pages.specs.declared.frame.Frame.Frame Rattle.std.specs.declared.alloc.Global.Global). length it.items) a.frames in
     record {
       frames = omega (arith, ap (λ (it : Shares). length it.counts) a.frame_counts, room.frames, fs);
+      reads = omega (arith, room.reads, a.reads);
       tables =
           omega (
             arith,
@@ -407,14 +411,13 @@ added s m new u table store wide seems a also = record {
         ap (λ (it : Store). it.leaf_counts.spare) seems.rest,
         ap (λ (it : Store). length it.leaf_counts.counts) seems.rest,
       );
-  room = record {
-    frames =
-        ap (λ (it : Rattle.std.specs.declared.vec.Vec.Vec Rattle.cow_pages.specs.declared.frame.Frame.Frame Rattle.std.specs.declared.alloc.Global.Global). length it.items) a.frames
-        ∙ ap (λ (it : Store). length it.frames.items) seems.rest;
-    spare =
-        ap (λ (it : Shares). min it.spare new.leaf_counts.spare) a.frame_counts ∙ ap (λ (n : ℕ). min m.frame_counts.spare n) a.spare
-        ∙ ap (λ (it : Store). spare_of it) seems.rest;
-  };
+  room =
+      keeps_room s new store also
+      (ap (λ (it : Rattle.std.specs.declared.vec.Vec.Vec Rattle.cow_pages.specs.declared.frame.Frame.Frame Rattle.std.specs.declared.alloc.Global.Global). length it.items) a.frames
+      ∙ ap (λ (it : Store). length it.frames.items) seems.rest)
+      (a.len ∙ ap (λ (it : Store). length it.leaf_counts.counts) seems.rest)
+      (ap (λ (it : Shares). it.spare) a.frame_counts ∙ ap (λ (it : Store). it.frame_counts.spare) seems.rest)
+      (a.spare ∙ ap (λ (it : Store). it.leaf_counts.spare) seems.rest);
 }
 
 -- a table without leaves
@@ -477,6 +480,7 @@ row_leaf s kept t row same i l is =
 pub room_shares : (s : Store) (shares : Shares) → HasRoom s → AreTallied shares → HasRoom (record s { leaf_counts = shares })
 room_shares s shares room tallied = record {
   frames = room.frames;
+  reads = room.reads;
   tables = room.tables;
   frames_tallied = room.frames_tallied;
   leaves_tallied = tallied;
@@ -497,11 +501,13 @@ seems_used s new store also seems =
       ap (λ (it : Store). length it.leaf_counts.counts) seems.rest,
     )
 
-pub seems_room : (s new : Store) → SeemsSame s new → KeepsRoom (shown s) (shown new)
-seems_room s new seems = record {
-  frames = ap (λ (it : Store). length it.frames.items) seems.rest;
-  spare = ap (λ (it : Store). spare_of it) seems.rest;
-}
+pub seems_room : (s new : Store) → IsStore s → IsStore new → SeemsSame s new → KeepsRoom (shown s) (shown new)
+seems_room s new store also seems =
+    keeps_room s new store also
+    (ap (λ (it : Store). length it.frames.items) seems.rest)
+    (ap (λ (it : Store). length it.leaf_counts.counts) seems.rest)
+    (ap (λ (it : Store). it.frame_counts.spare) seems.rest)
+    (ap (λ (it : Store). it.leaf_counts.spare) seems.rest)
 
 -- A NEW TABLE, AND A FORK
 

@@ -197,7 +197,7 @@ pub record HasSpace (s : Store) (frames leaves : ℕ) : Type 0 where
 
 -- so many frames and leaves joined, all of them free
 pub record AddsRoom (s new : Store) (frames leaves : ℕ) : Type 0 where
-  pub seen : shown new ≡ record (shown s) { frames = length s.frames.items + frames; spare = min (s.frame_counts.spare + frames) (s.leaf_counts.spare + leaves) }
+  pub seen : shown new ≡ record (shown s) { frames = length s.frames.items + frames; leaf_count = length s.leaves.items + leaves; spare = min (s.frame_counts.spare + frames) (s.leaf_counts.spare + leaves) }
   pub frames_spare : new.frame_counts.spare ≡ s.frame_counts.spare + frames
   pub leaves_spare : new.leaf_counts.spare ≡ s.leaf_counts.spare + leaves
 
@@ -212,8 +212,9 @@ pub record SetsFrameCounts (s new : Store) : Type 0 where
   pub len : length new.frame_counts.counts ≡ length s.frame_counts.counts
   pub tallied : AreTallied new.frame_counts
 
--- as many frames are free, and at most one leaf less
+-- there are as many leaves, as many frames are free, and at most one leaf less
 pub record KeepsRoomOf (s new : Store) : Type 0 where
+  pub len : length new.leaf_counts.counts ≡ length s.leaf_counts.counts
   pub frames : new.frame_counts.spare ≡ s.frame_counts.spare
   pub leaves : s.leaf_counts.spare ≤ new.leaf_counts.spare + 1
 

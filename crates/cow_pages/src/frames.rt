@@ -75,6 +75,7 @@ impl Frames {
         ensures rest { self.new ≡ record self.old { frames = self.new.frames; leaf_count = self.new.leaf_count; spare = self.new.spare } }
         ensures all_seen { AllSeen self.old self.new }
         ensures enough { k ≤ self.old.spare → IsOk result × (self.new ≡ self.old) }
+        ensures was_sound { IsSound self.old }
         ensures err { OnErr result (self.new ≡ self.old) }
         ensures sound { IsSound self.new }
     {

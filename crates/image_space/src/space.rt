@@ -95,6 +95,7 @@ impl ImageSpace {
         let fill = self.fill + size;
         let mapped = pages_up_to(self.fill);
         let count = pages_up_to(fill) - mapped;
+        // says that the memory is sound before, so that no more is made than is lacking
         frames.reserve(count as usize)?;
         self.starts.grow(fill)?;
         map_reserved(frames, t, PageNo(FIRST_PAGE + mapped), count);

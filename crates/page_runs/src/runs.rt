@@ -26,7 +26,6 @@ pub fn map_run(frames: &mut Frames, t: TableNo, first: PageNo, count: u32) -> Re
     ensures sound { IsSound frames.new }
 {
     // says that the memory is sound before, so that no more is made than is lacking
-    let _spare = frames.spare();
     frames.reserve(count as usize)?;
     map_reserved(frames, t, first, count);
     Ok(())

@@ -16,7 +16,7 @@ returns c =
     let new = c.map_reserved.new.frames in
     let t = c.args.t.0 in
     let all : MapsRun old new t c.args.first.0 c.args.count =
-    mapping-reserved old c.reserve.new.self new t c.args.first.0 c.args.count c.spare-spare.ensures.sound (record {
+    mapping-reserved old c.reserve.new.self new t c.args.first.0 c.args.count c.reserve.ensures.was_sound (record {
       rest = c.reserve.ensures.rest;
       spare = c.in_ok-reserve.ensures.no_more;
       frames = c.in_ok-reserve.ensures.frames;

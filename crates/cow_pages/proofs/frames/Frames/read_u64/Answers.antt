@@ -4,7 +4,7 @@ use Rattle.cow_pages.specs.declared.store.Store.{Store}
 use Rattle.cow_pages.specs.View.{u64_at}
 use Rattle.cow_pages.specs.Store.{shown, IsStore}
 use Rattle.cow_pages.proofs.SoundLemmas.{sound}
-use Rattle.cow_pages.proofs.ReadLemmas.{IsStore-reads, read_within, eight-frame, eight, small_eight, small_bytes}
+use Rattle.cow_pages.proofs.ReadLemmas.{counted_read, read_within, eight-frame, eight, small_eight, small_bytes}
 use Rattle.std.proofs.lemmas.Nat.{le_bytes_8}
 use Rattle.cow_pages.proofs.frames.Frames.read_u64.Goals as goal
 
@@ -27,8 +27,8 @@ returns c =
           (le_bytes_8 (eight x.bytes c.offset.result) c.u64_in.result refl small c.u64_in.ensures
           ∙ eight-frame s c.self.invariant c.args.t.0 c.args.at.0 f c.offset.result x c.requires.aligned c.read-number.ensures.number read c.offset.ensures);
       counts = rw (← c.self.view_is) (ap shown c.read-number.ensures.store);
-      sound = sound _ (subst IsStore (sym c.read-number.ensures.store) (IsStore-reads c.self.inside.store _ c.self.invariant));
+      sound = sound _ (subst IsStore (sym c.read-number.ensures.store) (counted_read c.self.inside.store c.args.at.0 c.self.invariant));
     }
 
 pub invariant_of-self : goal.invariant_of-self
-invariant_of-self c = subst IsStore (sym c.read-number.ensures.store) (IsStore-reads c.self.inside.store _ c.self.invariant)
+invariant_of-self c = subst IsStore (sym c.read-number.ensures.store) (counted_read c.self.inside.store c.args.at.0 c.self.invariant)

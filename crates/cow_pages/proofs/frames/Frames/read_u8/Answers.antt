@@ -4,7 +4,7 @@ use Rattle.cow_pages.specs.Address.{offset_of}
 use Rattle.cow_pages.specs.declared.store.Store.{Store}
 use Rattle.cow_pages.specs.Store.{shown, IsStore}
 use Rattle.cow_pages.proofs.SoundLemmas.{sound}
-use Rattle.cow_pages.proofs.ReadLemmas.{IsStore-reads, read_within, byte_at-frame, bytes_read}
+use Rattle.cow_pages.proofs.ReadLemmas.{counted_read, read_within, byte_at-frame, bytes_read}
 use Rattle.cow_pages.proofs.frames.Frames.read_u8.Goals as goal
 
 pub index-requires : goal.index-requires
@@ -25,10 +25,10 @@ returns-clause-value c =
 
 pub returns-clause-sound : goal.returns-clause-sound
 returns-clause-sound c =
-    sound _ (subst IsStore (sym c.read-number.ensures.store) (IsStore-reads c.self.inside.store _ c.self.invariant))
+    sound _ (subst IsStore (sym c.read-number.ensures.store) (counted_read c.self.inside.store c.args.at.0 c.self.invariant))
 
 pub invariant_of-self : goal.invariant_of-self
-invariant_of-self c = subst IsStore (sym c.read-number.ensures.store) (IsStore-reads c.self.inside.store _ c.self.invariant)
+invariant_of-self c = subst IsStore (sym c.read-number.ensures.store) (counted_read c.self.inside.store c.args.at.0 c.self.invariant)
 
 pub returns-clause-counts : goal.returns-clause-counts
 returns-clause-counts c = rw (← c.self.view_is) (ap shown c.read-number.ensures.store)

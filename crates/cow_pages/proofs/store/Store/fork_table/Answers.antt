@@ -41,7 +41,7 @@ pub returns-in_err-reserve_table-clause-used : goal.returns-in_err-reserve_table
 returns-in_err-reserve_table-clause-used c = seems_used c.args.self.now c.reserve_table.new.self c.requires.store c.reserve_table.ensures.store c.reserve_table.ensures.same
 
 pub returns-in_err-reserve_table-clause-room : goal.returns-in_err-reserve_table-clause-room
-returns-in_err-reserve_table-clause-room c = seems_room c.args.self.now c.reserve_table.new.self c.reserve_table.ensures.same
+returns-in_err-reserve_table-clause-room c = seems_room c.args.self.now c.reserve_table.new.self c.requires.store c.reserve_table.ensures.store c.reserve_table.ensures.same
 
 pub returns-in_err-reserve_table-clause-err : goal.returns-in_err-reserve_table-clause-err
 returns-in_err-reserve_table-clause-err c =

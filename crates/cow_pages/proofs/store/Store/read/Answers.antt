@@ -2,17 +2,16 @@ use Rattle.std.proofs.Common.{◌≡◌, Some, IsTrue, sym, ap, subst, ◌∙◌
 use Rattle.std.specs.Prelude.{option_map}
 use Rattle.cow_pages.specs.Address.{page_of}
 use Rattle.cow_pages.specs.Memory.{is_mapped}
-use Rattle.cow_pages.specs.Change.{reads_after}
 use Rattle.cow_pages.specs.declared.leaf.Entry.{Entry}
 use Rattle.cow_pages.specs.declared.store.Store.{Store}
 use Rattle.cow_pages.specs.Store.{shown, entry_at, IsStore}
 use Rattle.cow_pages.proofs.ShownLemmas.{frame-shown}
-use Rattle.cow_pages.proofs.ReadLemmas.{IsStore-reads}
+use Rattle.cow_pages.proofs.ReadLemmas.{counted_read}
 use Rattle.cow_pages.proofs.store.Store.read.Goals as goal
 
 pub mapped_entry-requires-clause-store : goal.mapped_entry-requires-clause-store
 mapped_entry-requires-clause-store c =
-    subst IsStore (sym c.count_read.ensures) (IsStore-reads c.args.self.now (reads_after c.args.self.now.reads c.args.at.0) c.requires.store)
+    subst IsStore (sym c.count_read.ensures) (counted_read c.args.self.now c.args.at.0 c.requires.store)
 
 pub mapped_entry-requires-clause-mapped : goal.mapped_entry-requires-clause-mapped
 mapped_entry-requires-clause-mapped c =
