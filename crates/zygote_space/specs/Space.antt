@@ -1,5 +1,5 @@
 -- The zygote space: segments of objects, each from a whole page on, and the pages that hold their bytes.
-use Rattle.std.specs.Prelude.{◌≡◌, ℕ, ◌+◌, ◌-◌, ◌*◌, ◌%◌, ◌<◌, ◌≤◌, ◌==◌, ◌||◌, List, [], ◌∷◌, ◌++◌, sum, Option, None, Some, IfSome}
+use Rattle.std.specs.Prelude.{◌≡◌, ℕ, ◌+◌, ◌-◌, ◌*◌, ◌%◌, ◌≤◌, ◌==◌, ◌||◌, List, [], ◌∷◌, ◌++◌, sum, Option, None, Some, IfSome}
 use Rattle.std.specs.List.{list_any}
 use Rattle.model_numbers.specs.Numbers.{page_bytes, zygote_base, zygote_length}
 use Rattle.cow_pages.specs.declared.address.Window.TheVariants.{Zygote}
@@ -104,6 +104,6 @@ pub record HasSegments (s : Space) (segments : List (List ℕ)) : Type 0 where
 
 -- besides closed segments the space has an open one, in which objects of these sizes stand and so many bytes are left
 pub record HasOpen (s : Space) (segments : List (List ℕ)) (sizes : List ℕ) (rest : ℕ) : Type 0 where
-  pub open : s.segment ≡ Some (record { next = to_page (segments_end 0 segments) + sum sizes; rest = rest })
+  pub segment : s.segment ≡ Some (record { next = to_page (segments_end 0 segments) + sum sizes; rest = rest })
   pub fill : s.fill ≡ segment_end (segments_end 0 segments) sizes
   pub starts : (q : ℕ) → is_marked s.starts q ≡ list_any (λ spot. q == spot) (segment_spots 0 (segments ++ sizes ∷ []))

@@ -89,7 +89,12 @@ impl ZygoteSpace {
     /// No segment is open, and `total` is a multiple of 8. Of the zygote window exactly the pages that hold bytes of the
     /// space are mapped in `t`, before and after. `Full` comes exactly where the bytes that stand, rounded up to a whole
     /// page, and `total` pass 268,435,456. After an error nothing has changed but that frames may have become free.
-    pub fn open_segment(&mut self, frames: &mut Frames, t: TableNo, total: u32) -> Result<(), ZygoteError>
+    pub fn open_segment(
+        &mut self,
+        frames: &mut Frames,
+        t: TableNo,
+        total: u32,
+    ) -> Result<(), ZygoteError>
         requires closed { self.old.segment ≡ None }
         requires multiple { total % 8 ≡ 0 }
         requires live { IsTrue (is_live frames.old t.0) }
@@ -115,7 +120,10 @@ impl ZygoteSpace {
         frames.reserve(count as usize)?;
         self.starts.grow(fill + total)?;
         map_reserved(frames, t, PageNo(FIRST_PAGE + pages), count);
-        self.segment = Some(Segment { next: fill, rest: total });
+        self.segment = Some(Segment {
+            next: fill,
+            rest: total,
+        });
         Ok(())
     }
 
