@@ -1,2 +1,3 @@
+pub mod Larges
 pub mod Pages
 pub mod Rows

@@ -1,8 +1,8 @@
 -- The pages of large objects.
 use Rattle.std.specs.Prelude.{◌≡◌, ◌≢◌, ◌⊎◌, ℕ, ◌+◌, ◌≤◌, Bool, false, ◌&&◌, IsTrue, List, map, sum, None, nat_le, nat_lt}
 use Rattle.std.specs.List.{list_any}
-use Rattle.page_tables.specs.declared.address.Window.TheVariants.{Large}
-use Rattle.page_tables.specs.Address.{is_in, page_of}
+use Rattle.cow_pages.specs.declared.address.Window.TheVariants.{Large}
+use Rattle.cow_pages.specs.Address.{is_in, page_of}
 use Rattle.cow_pages.specs.Memory.{Memory, page_at, is_live, is_mapped, used_frames, HasOneSharer}
 use Rattle.image_space.specs.Space.{pages_up_to}
 use Rattle.large_objects.specs.declared.rows.LargeRow.{LargeRow}

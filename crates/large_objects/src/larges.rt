@@ -1,7 +1,7 @@
 //! The large objects of a process, and the pages that hold them.
 ghost use Rattle.std.specs.Prelude.{◌≡◌, ◌≢◌, ℕ, ◌+◌, ◌<◌, ◌≤◌, [], length, map, All, IsTrue, not, IfOk, OnOk, OnErr, Option, Some, None, is_some, option_map};
 ghost use Rattle.model_numbers.specs.Numbers.{large_slot_count};
-ghost use Rattle.page_tables.specs.Address.{page_of};
+ghost use Rattle.cow_pages.specs.Address.{page_of};
 ghost use Rattle.cow_pages.specs.Memory.{is_live, IsSound};
 ghost use Rattle.cow_pages.specs.Only.{OnlyTable};
 ghost use Rattle.cow_pages.specs.View.{view_of, OthersSeen};
