@@ -1,3 +1,0 @@
-pub mod Larges
-pub mod Pages
-pub mod Rows

@@ -1,3 +1,0 @@
-pub mod Packed
-pub mod Pages
-pub mod Space

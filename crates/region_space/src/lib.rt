@@ -1,8 +1,0 @@
-//! The region space: small objects, packed into regions, and moved between them by a collection.
-#![tactic(auto)]
-
-mod laws;
-mod space;
-
-pub use laws::{objects_stay_where_they_are, regions_pack_by_the_rule, walks_pass_all_objects};
-pub use space::RegionSpace;
