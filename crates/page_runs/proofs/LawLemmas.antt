@@ -1,5 +1,5 @@
 -- Runs of pages counted, and joined.
-use Rattle.std.proofs.Common.{◌≡◌, ◌≢◌, ◌⊎◌, ◌∙◌, ℕ, zero, suc, ◌+◌, ◌<◌, ◌≤◌, Bool, false, ◌&&◌, cond, count_by, true≢false, Option, Some, None, refl, sym, ap, inl, inr, arith, leb, ltb}
+use Rattle.std.proofs.Common.{◌≡◌, ◌≢◌, ◌⊎◌, ◌∙◌, ℕ, zero, suc, ◌+◌, ◌<◌, ◌≤◌, Bool, true, false, ◌&&◌, cond, count_by, true≢false, Option, Some, None, refl, sym, ap, inl, inr, arith, leb, ltb}
 use Rattle.std.specs.Prelude.{option_map, is_some}
 use Rattle.std.proofs.lemmas.Bool.{cases_lt, cond-true, le-leb, lt-leb, le-ltb, lt-ltb, and_from}
 use Rattle.page_tables.specs.declared.address.Window.{Window}
@@ -97,3 +97,28 @@ run-joined one two three t first n k a b = record {
         let z = a.zeros p here in
         own-stays two three t p z.frame (run-only two three t (first + n) k b) (a.alone p here) (ap (option_map (λ (page : Page). page.frame)) (after p here ∙ z.now))
     alone p (inr here) = b.alone p here
+
+-- GROWN
+
+-- a window's run with the one that was mapped directly behind it
+pub run-grown : (old new : Memory) (t : ℕ) (w : Window) (first n k : ℕ) → HasRun old t w first n → MapsRun old new t (first + n) k → HasRun new t w first (n + k)
+run-grown old new t w first n k has maps p window = by (cases_lt p first) (cases_lt p (first + n)) (cases_lt p (first + (n + k)))
+  where
+    outside : (p < first) ⊎ (first + (n + k) ≤ p) → (leb first p && ltb p (first + (n + k))) ≡ false
+    outside (inl below) = ap (λ (b : Bool). b && ltb p (first + (n + k))) (lt-leb first p below)
+    outside (inr behind) = ap (λ (b : Bool). b && ltb p (first + (n + k))) (le-leb first p (omega (arith, behind))) ∙ le-ltb p (first + (n + k)) behind
+
+    inside : first ≤ p → p < first + (n + k) → (leb first p && ltb p (first + (n + k))) ≡ true
+    inside from to = and_from _ _ (le-leb first p from) (lt-ltb p (first + (n + k)) to)
+
+    by : (p < first) ⊎ (first ≤ p) → (p < first + n) ⊎ (first + n ≤ p) → (p < first + (n + k)) ⊎ (first + (n + k) ≤ p)
+        → is_mapped new t p ≡ (leb first p && ltb p (first + (n + k)))
+    by (inl below) side end =
+        ap is_some (maps.others t p (inr (inl (omega (arith, below))))) ∙ has p window ∙ ap (λ (b : Bool). b && ltb p (first + n)) (lt-leb first p below) ∙ sym (outside (inl below))
+    by (inr from) (inl within) end =
+        ap is_some (maps.others t p (inr (inl within))) ∙ has p window ∙ and_from _ _ (le-leb first p from) (lt-ltb p (first + n) within) ∙ sym (inside from (omega (arith, within)))
+    by (inr from) (inr behind) (inl within) =
+        ap is_some (maps.zeros p (record { from = behind; to = omega (arith, within) })).now ∙ sym (inside from within)
+    by (inr from) (inr behind) (inr after) =
+        ap is_some (maps.others t p (inr (inr (omega (arith, after))))) ∙ has p window
+        ∙ (ap (λ (b : Bool). b && ltb p (first + n)) (le-leb first p from) ∙ le-ltb p (first + n) behind) ∙ sym (outside (inr after))

@@ -16,3 +16,8 @@ pub fn runs_join()
     ensures { (one two three : Memory) (t first n k : ℕ) → MapsRun one two t first n → MapsRun two three t (first + n) k
         → MapsRun one three t first (n + k) }
 {}
+
+/// Where a table has exactly a run of a window's pages, and a run directly behind it is mapped, it has exactly both.
+pub fn runs_grow()
+    ensures { (old new : Memory) (t : ℕ) (w : Window) (first n k : ℕ) → HasRun old t w first n → MapsRun old new t (first + n) k → HasRun new t w first (n + k) }
+{}

@@ -1,11 +1,11 @@
 //! The counts, and the list of the free numbers.
-ghost use Rattle.std.specs.Prelude.{◌≡◌, ◌≢◌, ◌+◌, ◌-◌, ◌<◌, ◌≤◌, ◌^◌, ◌++◌, [], length, replicate, slice_set, OnOk};
+ghost use Rattle.std.specs.Prelude.{◌≡◌, ◌≢◌, ◌+◌, ◌-◌, ◌<◌, ◌≤◌, ◌^◌, ◌++◌, [], length, replicate, slice_set, IfOk, OnOk};
 ghost use Rattle.sharers.specs.Shares.{count_of, AreTallied, SameCounts};
 
 use std::alloc::{AllocError, Global};
 use std::marker::Model;
 
-#[derive(Drop)]
+#[derive(Clone, Copy)]
 pub(crate) struct Row {
     /// How many have the number. It is free where nobody has it.
     pub(crate) holders: usize,
@@ -74,6 +74,20 @@ impl Sharers {
         ensures { result ≡ count_of self.now number }
     {
         self.rows[number].holders
+    }
+
+    /// Equal counts.
+    pub fn copied(&self) -> Result<Sharers, AllocError>
+        ensures same { IfOk result (λ copy. SameCounts self.now copy) }
+        ensures tallied { IfOk result (λ copy. AreTallied copy) }
+    {
+        let mut rows = Vec::new(*self.rows.allocator());
+        rows.extend_from_slice(&self.rows)?;
+        Ok(Sharers {
+            rows,
+            first_free: self.first_free,
+            spare: self.spare,
+        })
     }
 
     /// Takes memory for so many further numbers, of which there are fewer than 2^32 then.
