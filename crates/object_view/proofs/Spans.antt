@@ -67,10 +67,10 @@ others-more alone first (suc n) (suc m) le = elim (cases_eq n m) [
 ]
 
 -- as many frames and leaves, and as many of them used
-room-same : (m : Memory) → KeepsRoom m m
+pub room-same : (m : Memory) → KeepsRoom m m
 room-same m = record { frames = refl; leaf_count = refl; spare = refl; used = refl; used_leaves = refl }
 
-room-reads : (m old : Memory) (n : ℕ) → KeepsRoom m old → KeepsRoom m (record old { reads = n })
+pub room-reads : (m old : Memory) (n : ℕ) → KeepsRoom m old → KeepsRoom m (record old { reads = n })
 room-reads m old n k = record { frames = k.frames; leaf_count = k.leaf_count; spare = k.spare; used = k.used; used_leaves = k.used_leaves }
 
 pub room-after : (a b c : Memory) → KeepsRoom a b → KeepsRoom b c → KeepsRoom a c
