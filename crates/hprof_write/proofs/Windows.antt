@@ -4,7 +4,7 @@ use Rattle.std.specs.List.{zip}
 use Rattle.model_numbers.specs.Numbers.{image_base, image_length, region_base, zygote_base, zygote_length}
 use Rattle.class_layout.specs.ClassList.{Class}
 use Rattle.class_layout.specs.Placing.{IsIn}
-use Rattle.cow_pages.proofs.PlaceLemmas.{is_in_past}
+use Rattle.page_tables.proofs.WindowLemmas.{is_in_past}
 use Rattle.heap_graph.specs.declared.names.Place.{Place}
 use Rattle.heap_graph.specs.declared.names.Place.TheVariants.{Image, Zygote, Young, Large, Promoted}
 use Rattle.heap_graph.specs.Graph.{Graph, Object, is_young, size_of_object}

@@ -2,7 +2,8 @@
 use Rattle.std.proofs.Common.{◌≡◌, ◌≢◌, ◌⊎◌, ◌∙◌, ℕ, ◌+◌, ◌<◌, ◌≤◌, Option, Some, None, true≢false, IsTrue, refl, sym, ap, subst, inl, inr}
 use Rattle.std.specs.Prelude.{option_map, is_some}
 use Rattle.std.proofs.lemmas.Bool.{cases_eq}
-use Rattle.cow_pages.specs.Memory.{Memory, Page, page_at, frame_at, is_mapped, is_written, flag_of, HasOneSharer, IsShared}
+use Rattle.cow_pages.specs.Memory.{Memory, Page, page_at, frame_at, is_mapped, is_written, flag_of, HasOneSharer, IsShared, IsSound}
+use Rattle.cow_pages.specs.Only.{OnlyTable}
 use Rattle.object_view.specs.Changes.{ChangesPages}
 use Rattle.object_view.proofs.Spans.{frame-same, not-shared}
 
@@ -50,3 +51,17 @@ module _ (old new : Memory) (t first n : ℕ) (c : ChangesPages old new t first 
           ]
         ],
       )
+
+-- a page that has a free frame in place of its own has it alone
+pub one-table : (old new : Memory) (t first n : ℕ) → ChangesPages old new t first n → IsSound new → OnlyTable old new t
+one-table old new t first n c sound = record {
+  others = λ u q apart. c.others u q (inl apart);
+  live = c.live;
+  own = λ p f is. elim (c.frames p f is) [
+    | inl kept ↦ inl kept
+    | inr copied ↦ inr (λ u q same. elim (cases_eq u t) [
+      | inr apart ↦ absurd (copied.1 u q (sym (frame-same old new u u q q (c.others u q (inl apart))) ∙ same ∙ is))
+      | inl here ↦ (here, sound.same_page u q t p f (same ∙ is) is)
+    ])
+  ];
+}

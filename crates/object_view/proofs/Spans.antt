@@ -66,6 +66,22 @@ others-more alone first (suc n) (suc m) le = elim (cases_eq n m) [
       omega (arith, rest)
 ]
 
+-- as many frames and leaves, and as many of them used
+pub room-same : (m : Memory) → KeepsRoom m m
+room-same m = record { frames = refl; leaf_count = refl; spare = refl; used = refl; used_leaves = refl }
+
+pub room-reads : (m old : Memory) (n : ℕ) → KeepsRoom m old → KeepsRoom m (record old { reads = n })
+room-reads m old n k = record { frames = k.frames; leaf_count = k.leaf_count; spare = k.spare; used = k.used; used_leaves = k.used_leaves }
+
+pub room-after : (a b c : Memory) → KeepsRoom a b → KeepsRoom b c → KeepsRoom a c
+room-after a b c one two = record {
+  frames = two.frames ∙ one.frames;
+  leaf_count = two.leaf_count ∙ one.leaf_count;
+  spare = two.spare ∙ one.spare;
+  used = two.used ∙ one.used;
+  used_leaves = two.used_leaves ∙ one.used_leaves;
+}
+
 -- nothing changed
 pub ChangesPages-none : (m : Memory) (t first : ℕ) → ChangesPages m m t first 0
 ChangesPages-none m t first = record {
@@ -73,7 +89,7 @@ ChangesPages-none m t first = record {
   live = λ u. refl;
   frames = λ p f is. inl is;
   spare = λ alone h. omega arith;
-  in_place = λ alone. record { frames = refl; spare = refl };
+  in_place = λ alone. room-same m;
 }
 
 -- more pages may have changed
@@ -107,7 +123,7 @@ WritesSpan-none m t at =
 -- a count of reads is no part of the pages
 pub WritesSpan-reads : (m old : Memory) (t from to n : ℕ) → WritesSpan m old t from to → WritesSpan m (record old { reads = n }) t from to
 WritesSpan-reads m old t from to n s = record {
-  pages = record { others = s.pages.others; live = s.pages.live; frames = s.pages.frames; spare = s.pages.spare; in_place = λ alone. let k = s.pages.in_place alone in record { frames = k.frames; spare = k.spare } };
+  pages = record { others = s.pages.others; live = s.pages.live; frames = s.pages.frames; spare = s.pages.spare; in_place = λ alone. room-reads m old n (s.pages.in_place alone) };
   written = s.written;
   alone = s.alone;
 }
@@ -214,9 +230,6 @@ module _ (old new : Memory) (t at : ℕ) (bytes : List ℕ) (w : WritesPage old 
         omega (arith, one);
     in_place = λ alone. takes.in_place (alone (page_of at) (omega arith) (omega arith));
   }
-
-room-after : (a b c : Memory) → KeepsRoom a b → KeepsRoom b c → KeepsRoom a c
-room-after a b c one two = record { frames = two.frames ∙ one.frames; spare = two.spare ∙ one.spare }
 
 module _ (m old new : Memory) (t from c : ℕ) (bytes : List ℕ) (s : WritesSpan m old t from c) (w : WritesPage old new t c bytes) (takes : TakesOnCopy old new t (page_of c)) (sound : IsSound new) where
   others-step : (n : ℕ) → page_of from + pages_in from c ≤ page_of from + n → page_of c < page_of from + n → page_of from ≤ page_of c

@@ -10,6 +10,7 @@ ghost use Rattle.class_layout.specs.Placing.{IsIn};
 ghost use Rattle.page_tables.specs.declared.address.Addr.{Addr};
 ghost use Rattle.page_tables.specs.Address.{page_of, is_immune};
 ghost use Rattle.cow_pages.specs.Memory.{frame_at, is_mapped, is_written, HasOneSharer, IsSound, Memory};
+ghost use Rattle.cow_pages.specs.Only.{OnlyTable};
 ghost use Rattle.cow_pages.specs.View.{view_of, SameView, View};
 ghost use Rattle.heap_graph.specs.declared.names.Shape.{Shape};
 ghost use Rattle.heap_graph.specs.Sizes.{size_in};
@@ -140,6 +141,11 @@ pub fn alone_stays()
         → HasOneSharer old u q → (frame_at new u q ≡ frame_at old u q) × HasOneSharer new u q }
 {}
 
+/// Where some pages of a table changed, this table alone did: each page of it has the frame that it had, or one of its own.
+pub fn pages_are_of_one_table()
+    ensures { (old new : Memory) (t first n : ℕ) → ChangesPages old new t first n → IsSound new → OnlyTable old new t }
+{}
+
 /// Counts of reads add up: no read is a rise by 0, a rise after a rise is a rise by both, and what rose by at most so many
 /// rose by at most more.
 pub fn reads_add_up()
@@ -151,6 +157,7 @@ pub fn reads_add_up()
 /// After reads at a list of addresses the count has risen by at most the number of those in the image or in the zygote
 /// window. It stands still at the last value of 64 bits.
 pub fn reads_are_counted()
+    ensures sound { (m : Memory) (ats : List ℕ) → IsSound m → RoseBy (count_by is_immune ats) m.reads (reads_after_all m.reads ats) }
     ensures rise { (reads : ℕ) (ats : List ℕ) → reads < 2 ^ 64 → RoseBy (count_by is_immune ats) reads (reads_after_all reads ats) }
     ensures fit { (reads : ℕ) (ats : List ℕ) → reads < 2 ^ 64 → reads_after_all reads ats < 2 ^ 64 }
     ensures joined { (reads : ℕ) (first then : List ℕ) → reads_after_all reads (first ++ then) ≡ reads_after_all (reads_after_all reads first) then }

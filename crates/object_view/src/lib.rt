@@ -18,8 +18,9 @@ pub use heap_view::{HeapView, Seen};
 pub use laws::{
     all_references, alone_stays, copies_stand, forwarded_objects_stand, headers_read_back,
     mapped_is_below, more_classes_stand, objects_are_their_bytes, others_stand,
-    places_lie_in_objects, reads_add_up, reads_are_counted, references_rise, same_values_stand,
-    seen_objects_stand, stored_values_stand, values_read_back, values_stand,
+    pages_are_of_one_table, places_lie_in_objects, reads_add_up, reads_are_counted,
+    references_rise, same_values_stand, seen_objects_stand, stored_values_stand, values_read_back,
+    values_stand,
 };
 pub use names::{Header, Heap, Slot};
 pub use objects::{copy_object, ref_slot, size_of, write_new};

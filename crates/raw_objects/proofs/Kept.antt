@@ -6,6 +6,7 @@ use Rattle.std.proofs.lemmas.Result.{on_err_weaker, on_ok_weaker}
 use Rattle.class_layout.specs.declared.kind.Kind.{Kind}
 use Rattle.page_tables.specs.Address.{page_of}
 use Rattle.cow_pages.specs.Memory.{Memory, Page, frame_at, is_mapped, is_written, page_at, HasOneSharer, IsFree, IsSound}
+use Rattle.cow_pages.specs.Only.{OnlyTable}
 use Rattle.cow_pages.specs.View.{view_of}
 use Rattle.object_view.specs.Changes.{pages_in, AreWritten, ChangesPages, PutsNumber, WritesWords}
 use Rattle.object_view.specs.Objects.{IsSpace}
@@ -117,6 +118,14 @@ keeps-wider old new t may more k wider = record {
   others = λ u q off. k.others u q (elim off [ inl ne ↦ inl ne | inr out ↦ inr (off-wider may more q wider out) ]);
   live = k.live;
   own = k.own;
+}
+
+-- a step changes its table alone
+pub one-table : (old new : Memory) (t : ℕ) (may : ℕ → Bool) → Keeps old new t may → OnlyTable old new t
+one-table old new t may k = record {
+  others = λ u q apart. k.others u q (inl apart);
+  live = k.live;
+  own = λ q f is. elim (k.own q) [ inl same ↦ inl (sym same ∙ is) | inr mine ↦ inr mine ];
 }
 
 -- some pages changed

@@ -1,10 +1,13 @@
 -- Pages that are mapped or released beside the objects.
-use Rattle.std.proofs.Common.{◌≡◌, ◌∙◌, ℕ, ◌+◌, Bool, List, None, sym, ap}
+use Rattle.std.proofs.Common.{◌≡◌, ◌∙◌, ℕ, ◌+◌, Bool, true, List, None, sym, ap, inl, inr}
 use Rattle.std.specs.Prelude.{is_some}
-use Rattle.std.proofs.lemmas.Bool.{and_parts, true≢false}
+use Rattle.std.proofs.lemmas.Bool.{and_parts, cases_lt, true≢false}
 use Rattle.class_layout.specs.ClassList.{Class}
-use Rattle.cow_pages.specs.Memory.{Memory, page_at}
+use Rattle.page_tables.specs.Address.{page_of}
+use Rattle.cow_pages.specs.Memory.{Memory, is_mapped, page_at}
 use Rattle.cow_pages.specs.View.{view_of, SameBeside, View}
+use Rattle.cow_pages.proofs.ViewLemmas.{byte-page, mapped-page}
+use Rattle.page_runs.specs.Runs.{MapsRun}
 use Rattle.object_view.proofs.Standing.{Stands-copied}
 use Rattle.raw_objects.specs.Raws.{among, HoldsRaws, IsOffPage, Raw, Raws}
 
@@ -24,6 +27,29 @@ raws-paged cs v w raws p h beside off = record {
 -- no object has a byte in a page that is not mapped
 pub off-unmapped : (cs : List Class) (m : Memory) (t p : ℕ) (raws : Raws) → HoldsRaws cs (view_of m t) raws → page_at m t p ≡ None → IsOffPage cs raws p
 off-unmapped cs m t p raws h none a i is lt e = true≢false (sym ((h.stands a is).space.mapped i lt) ∙ ap (λ q. is_some (page_at m t q)) e ∙ ap (λ o. is_some o) none)
+
+-- objects stand beside pages that were mapped one directly behind the other
+pub raws-run : (cs : List Class) (old new : Memory) (t first n : ℕ) (raws : Raws) → HoldsRaws cs (view_of old t) raws → MapsRun old new t first n → HoldsRaws cs (view_of new t) raws
+raws-run cs old new t first n raws h run = record {
+  known = h.known;
+  stands = λ a is.
+      let r : Raw = raws.raw a in
+      let s = h.stands a is in
+      Stands-copied cs (view_of old t) (view_of new t) a a r.shape r.header r.values s s.aligned
+      (record { below = s.space.below; mapped = λ i lt. mapped-page old new t t (a + i) (same (a + i) (s.space.mapped i lt)) ∙ s.space.mapped i lt })
+      (λ i lt. byte-page old new t t (a + i) (same (a + i) (s.space.mapped i lt)));
+  apart = h.apart;
+}
+  where
+    -- what was mapped before is none of the pages
+    same : (b : ℕ) → is_mapped old t (page_of b) ≡ true → page_at new t (page_of b) ≡ page_at old t (page_of b)
+    same b mapped = run.others t (page_of b) (inr (elim (cases_lt (page_of b) first) [
+      | inl below ↦ inl below
+      | inr from ↦ elim (cases_lt (page_of b) (first + n)) [
+        | inl to ↦ absurd (true≢false (sym mapped ∙ run.fresh (page_of b) (record { from = from; to = to })))
+        | inr behind ↦ inr behind
+      ]
+    ]))
 
 -- fewer objects are held
 pub raws-among : (cs : List Class) (v : View) (raws : Raws) (test : ℕ → Bool) → HoldsRaws cs v raws → HoldsRaws cs v (among raws test)

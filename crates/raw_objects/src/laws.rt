@@ -5,7 +5,8 @@ ghost use Rattle.class_layout.specs.declared.kind.Kind.{Kind};
 ghost use Rattle.class_layout.specs.ClassList.{Class};
 ghost use Rattle.class_layout.specs.Placing.{IsIn};
 ghost use Rattle.cow_pages.specs.Memory.{is_mapped, is_written, IsSound, Memory};
-ghost use Rattle.cow_pages.specs.View.{SameBeside, SameView, View};
+ghost use Rattle.cow_pages.specs.Only.{OnlyTable};
+ghost use Rattle.cow_pages.specs.View.{view_of, SameBeside, SameView, View};
 ghost use Rattle.heap_graph.specs.Sizes.{size_in};
 ghost use Rattle.object_view.specs.declared.names.Header.TheVariants.{Forward};
 ghost use Rattle.object_view.specs.Changes.{ChangesPages, ChangesWithin, HasBytes, PutsNumber};
@@ -13,6 +14,7 @@ ghost use Rattle.heap_graph.specs.Places.{places_of};
 ghost use Rattle.object_view.specs.Objects.{IsKnown, IsPlace, IsSpace};
 ghost use Rattle.object_view.specs.Values.{number_of};
 ghost use Rattle.object_view.specs.Words.{lock_word};
+ghost use Rattle.page_runs.specs.Runs.{MapsRun};
 ghost use Rattle.raw_objects.specs.Keeps.{Keeps};
 ghost use Rattle.raw_objects.specs.Raws.{added, among, changed, evacuated, forwarded_raw, raw_size, stored, HoldsRaws, IsFreeSpace, IsOffPage, Raw, Raws, SameRaws, StandsRaw};
 ghost use Rattle.raw_objects.specs.References.{goes, turned_where, IsReadable, IsSlotIn};
@@ -43,10 +45,11 @@ pub fn moved_objects_are_held()
 {}
 
 /// Memory holds the objects as before where no byte of theirs changed: but for bytes that no object has, for a page
-/// without any, and for nothing at all.
+/// without any, for a run of pages that was mapped, and for nothing at all.
 pub fn other_objects_are_held()
     ensures bytes { (cs : List Class) (old new : View) (raws : Raws) (at size : ℕ) → HoldsRaws cs old raws → IsFreeSpace cs raws at size → ChangesWithin old new at (at + size) → HoldsRaws cs new raws }
     ensures page { (cs : List Class) (old new : View) (raws : Raws) (p : ℕ) → HoldsRaws cs old raws → IsOffPage cs raws p → SameBeside old new p → HoldsRaws cs new raws }
+    ensures run { (cs : List Class) (old new : Memory) (t first n : ℕ) (raws : Raws) → HoldsRaws cs (view_of old t) raws → MapsRun old new t first n → HoldsRaws cs (view_of new t) raws }
     ensures all { (cs : List Class) (old new : View) (raws : Raws) → HoldsRaws cs old raws → SameView old new → HoldsRaws cs new raws }
 {}
 
@@ -77,6 +80,11 @@ pub fn kept_pages_compose()
     ensures none { (m : Memory) (t : ℕ) (may : ℕ → Bool) → Keeps m m t may }
     ensures both { (one two three : Memory) (t : ℕ) (may : ℕ → Bool) → Keeps one two t may → Keeps two three t may → Keeps one three t may }
     ensures wider { (old new : Memory) (t : ℕ) (may more : ℕ → Bool) → Keeps old new t may → ((p : ℕ) → may p ≡ true → more p ≡ true) → Keeps old new t more }
+{}
+
+/// Steps that keep the pages of a table change this table alone: each page of it has the frame that it had, or one of its own.
+pub fn kept_pages_are_of_one_table()
+    ensures { (old new : Memory) (t : ℕ) (may : ℕ → Bool) → Keeps old new t may → OnlyTable old new t }
 {}
 
 /// A change of some pages is a step that may change these, where the same pages are mapped and no flag of theirs is cleared.

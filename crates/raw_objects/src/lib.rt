@@ -10,8 +10,9 @@ mod pages;
 mod steps;
 
 pub use laws::{
-    added_objects_are_held, changed_pages_are_kept, fewer_objects_are_held, kept_pages_compose,
-    moved_objects_are_held, other_objects_are_held, same_objects_are_held, stored_objects_are_held,
+    added_objects_are_held, changed_pages_are_kept, fewer_objects_are_held,
+    kept_pages_are_of_one_table, kept_pages_compose, moved_objects_are_held,
+    other_objects_are_held, same_objects_are_held, stored_objects_are_held,
     turned_references_are_held,
 };
 pub use moves::{evacuate, goes_to, turn_object, turn_slot};

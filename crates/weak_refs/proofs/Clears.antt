@@ -8,12 +8,13 @@ use Rattle.model_numbers.specs.Numbers.{page_bytes}
 use Rattle.page_tables.specs.Address.{page_of}
 use Rattle.cow_pages.specs.Memory.{Memory, Page, page_at, frame_at, is_mapped, is_written, flag_of, HasOneSharer, IsShared, IsFree, IsSound}
 use Rattle.cow_pages.specs.Change.{TakesOnCopy, WritesPage}
+use Rattle.cow_pages.specs.Only.{OnlyTable}
 use Rattle.cow_pages.specs.View.{View, view_of, OthersSeen, WritesBytes}
 use Rattle.cow_pages.proofs.ViewLemmas.{SameView-pages, zeros-at}
 use Rattle.object_view.specs.Changes.{ChangesPages}
 use Rattle.object_view.proofs.Lookups.{byte-reads}
 use Rattle.object_view.proofs.Numbers.{bytes_at-nth}
-use Rattle.object_view.proofs.Spans.{frame-same, not-shared, AreWritten-write, ChangesPages-write}
+use Rattle.object_view.proofs.Spans.{frame-same, not-shared, room-after, room-reads, room-same, AreWritten-write, ChangesPages-write}
 use Rattle.weak_refs.specs.Weak.{is_byte_of, is_page_of, shared_pages, ClearsSlots}
 use Rattle.weak_refs.proofs.Slots.{cond-or, in-slot, out-of-slot}
 
@@ -48,7 +49,7 @@ clears-none old mid t n counts = subst (λ (m : Memory). ClearsSlots old m t [])
   alone = λ p is. absurd (true≢false (sym is));
   frames = λ p f is. inl is;
   spare = λ own h. omega arith;
-  in_place = λ all. record { frames = refl; spare = refl };
+  in_place = λ all. room-reads old old n (room-same old);
 })
 
 module _ (old new : Memory) (t : ℕ) (ds : List ℕ) (c : ClearsSlots old new t ds) where
@@ -121,6 +122,16 @@ module _ (old new : Memory) (t : ℕ) (ds : List ℕ) (c : ClearsSlots old new t
         | inr copied ↦ absurd (copied.1 shared.0 p other)
       ]
 
+  pub one-table : OnlyTable old new t
+  one-table = record {
+    others = λ u q apart. c.others u q (inl apart);
+    live = c.live;
+    own = λ p f is. elim (cases_Bool (is_page_of ds p)) [
+      | inl among ↦ inr (c.alone p among)
+      | inr beside ↦ inl (sym (beside-frame t p (inr beside)) ∙ is)
+    ];
+  }
+
   pub OthersSeen-clears : OthersSeen old new t
   OthersSeen-clears u apart = SameView-pages old new u u (λ q. c.others u q (inl apart))
 
@@ -186,7 +197,7 @@ module _ (old mid new : Memory) (t : ℕ) (ds es : List ℕ) (a : ClearsSlots ol
     in_place = λ all.
         let one = a.in_place (λ p is. all p (first p is)) in
         let two = b.in_place (λ p is. one-mid p is (all p (second p is))) in
-        record { frames = two.frames ∙ one.frames; spare = two.spare ∙ one.spare };
+        room-after old mid new one two;
   }
 
 -- what stands in a slot where four bytes of 0 were written

@@ -5,4 +5,4 @@ mod clear;
 mod laws;
 
 pub use clear::{KeepTest, clear_dead};
-pub use laws::cleared_references;
+pub use laws::{cleared_references, references_are_of_one_table};

@@ -9,7 +9,7 @@ use Rattle.class_layout.specs.declared.kind.Kind.TheVariants.{Int}
 use Rattle.object_view.specs.declared.names.Header.TheVariants.{Forward}
 use Rattle.object_view.specs.Changes.{AreWritten, PutsNumber}
 use Rattle.object_view.specs.Words.{lock_word}
-use Rattle.object_view.proofs.Spans.{AreWritten-write, single-pages}
+use Rattle.object_view.proofs.Spans.{AreWritten-write, single-pages, OthersSeen-pages}
 use Rattle.object_view.proofs.Standing.{Stands-forwarded}
 use Rattle.object_view.proofs.headers.set_forward.Goals as goal
 
@@ -22,6 +22,9 @@ pub returns-clause-pages : goal.returns-clause-pages
 returns-clause-pages c =
     single-pages c.write_u32.result c.args.frames.now c.write_u32.new.self c.args.t.0 (c.args.at.0 + 4) (page_of c.args.at.0) (to_le_bytes w32 c.lock_word.result) (omega (arith, c.requires.aligned))
     c.write_u32.ensures.page c.write_u32.ensures.takes c.write_u32.ensures.err
+
+pub returns-clause-others_seen : goal.returns-clause-others_seen
+returns-clause-others_seen c = OthersSeen-pages c.args.frames.now c.write_u32.new.self c.args.t.0 (page_of c.args.at.0) 1 (returns-clause-pages c)
 
 pub returns-clause-written : goal.returns-clause-written
 returns-clause-written c =

@@ -1,9 +1,9 @@
-use Rattle.std.proofs.Common.{◌∙◌, ◌+◌, ◌*◌, sym, subst, arith}
+use Rattle.std.proofs.Common.{◌≡◌, ◌∙◌, ◌+◌, ◌*◌, sym, subst, arith}
 use Rattle.page_tables.specs.Address.{page_of}
 use Rattle.cow_pages.specs.Memory.{Memory}
 use Rattle.cow_pages.specs.View.{view_of}
 use Rattle.heap_graph.specs.Sizes.{size_in}
-use Rattle.object_view.specs.Changes.{WritesWords}
+use Rattle.object_view.specs.Changes.{pages_in, AreWritten, WritesWords}
 use Rattle.object_view.specs.Objects.{IsSpace}
 use Rattle.object_view.proofs.Copies.{reads-mid, words-mid, IsCopying-step}
 use Rattle.object_view.proofs.Heads.{changes-more, words-pages}
@@ -76,3 +76,9 @@ returns-clause-pages c = words-pages c.args.frames.now c.loop-i.frames c.args.t.
 
 pub returns-clause-others_seen : goal.returns-clause-others_seen
 returns-clause-others_seen c = OthersSeen-pages c.args.frames.now c.loop-i.frames c.args.t.0 (page_of c.args.to.0) _ (returns-clause-pages c)
+
+pub returns-clause-written : goal.returns-clause-written
+returns-clause-written c =
+    let to = c.args.to.0 in
+    let whole : 8 * c.loop-i.i ≡ c.args.size = omega (arith, c.loop-i-test.false, c.loop-i.auto.i-end, c.requires.size_aligned) in
+    subst (λ n. AreWritten c.loop-i.frames c.args.t.0 (page_of to) (pages_in to (to + n))) whole c.loop-i.invariant.so_far.words.span.written

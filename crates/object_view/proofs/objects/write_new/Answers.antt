@@ -9,7 +9,7 @@ use Rattle.object_view.specs.Changes.{pages_in, AreAlone, WritesSpan, WritesWord
 use Rattle.object_view.proofs.Laid.{size-bounds}
 use Rattle.object_view.proofs.Outcomes.{either, is_ok_unless}
 use Rattle.object_view.proofs.Spans.{OthersSeen-pages}
-use Rattle.object_view.proofs.Heads.{changes-more, words-pages, Stands-zeros}
+use Rattle.object_view.proofs.Heads.{changes-after, changes-more, words-pages, Stands-zeros}
 use Rattle.object_view.proofs.objects.write_new.Goals as goal
 
 pub returns-in_err-first-clause-bytes : goal.returns-in_err-first-clause-bytes
@@ -44,6 +44,17 @@ returns-clause-object c =
     (λ zeros. Stands-zeros c.args.classes.now u v w c.args.at.0 c.args.shape (Number c.args.number) (8 * first) (8 * (c.size_of.result / 8)) c.requires.aligned c.requires.space c.requires.number
     c.in_ok-first.ensures.head all.0 whole all.2.bytes.mapped c.write_zeros.ensures.bytes zeros)
     c.write_zeros.ensures.zeros
+
+pub returns-clause-bytes : goal.returns-clause-bytes
+returns-clause-bytes c =
+    let at : ℕ = c.args.at.0 in
+    let size : ℕ = size_in c.args.classes.now c.args.shape in
+    let first : ℕ = c.in_ok-first.first in
+    let bounds = size-bounds c.args.classes.now c.args.shape in
+    let whole : 8 * (c.size_of.result / 8) ≡ size = omega (arith, bounds.3, c.size_of.ensures) in
+    let all = c.in_ok-first.ensures.all in
+    changes-after (view_of c.args.frames.now c.args.t.0) (view_of c.write_head.new.frames c.args.t.0) (view_of c.write_zeros.new.frames c.args.t.0) at (at + 8 * first) (at + 8 * first) (at + 8 * (c.size_of.result / 8)) at (at + size)
+    (omega arith) (omega arith) (omega (arith, all.1)) (omega (arith, whole)) all.2.bytes c.write_zeros.ensures.bytes
 
 pages : (old mid new : Memory) (t at first total size : ℕ) → total ≡ size → WritesWords old mid t at first
     → ((m : Memory) → WritesSpan m mid t at (at + 8 * first) → WritesSpan m new t at (at + total)) → WritesSpan old new t at (at + size)
