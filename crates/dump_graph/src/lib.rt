@@ -4,10 +4,10 @@
 mod classes;
 mod climb;
 mod graph;
+mod guesses;
 mod node;
 mod numbers;
 mod parts;
 mod references;
 
 pub use graph::DumpGraph;
-pub use node::GraphNode;

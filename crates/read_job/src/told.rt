@@ -89,19 +89,21 @@ fn tell_dump<W: Sink>(
 }
 
 /// Puts what is asked of a text that is a dump, or the line that tells the first fault of another. Tells whether the text
-/// is a dump.
+/// is a dump. The text is let go before its dump is told.
 pub(crate) fn tell<W: Sink>(
     alloc: Global,
     question: Question,
-    text: &[u8],
+    text: Vec<u8>,
     sink: &mut W,
 ) -> Result<bool, Stop>
     ensures told { MatchResult result
-        (λ is_dump. Told question is_dump text.now (W.gained sink.old) (W.gained sink.new))
-        (λ stop. StoppedTelling question stop text.now (W.gained sink.old) (W.fault_count sink.old) (W.gained sink.new) (W.fault_count sink.new)) }
+        (λ is_dump. Told question is_dump text.items (W.gained sink.old) (W.gained sink.new))
+        (λ stop. StoppedTelling question stop text.items (W.gained sink.old) (W.fault_count sink.old) (W.gained sink.new) (W.fault_count sink.new)) }
     ensures never_falls { W.fault_count sink.old ≤ W.fault_count sink.new }
 {
-    match read_dump(alloc, text) {
+    let read = read_dump(alloc, &text);
+    drop(text);
+    match read {
         Ok(dump) => {
             tell_dump(alloc, question, &dump, sink)?;
             Ok(true)
