@@ -139,6 +139,13 @@ made-same ps b p is =
     ap (λ (r : Bool). let n : Node = record { id = id_of p; is_root = r; targets = numbers_of (node_ids ps) (known_references (known_of (classes ps)) p) } in n) is
     ∙ ap (λ (l : List ℕ). let n : Node = record { id = id_of p; is_root = list_any (roots_it (id_of p)) ps; targets = numbers_of (node_ids ps) l } in n) (known-same (classes ps) p)
 
+-- a node is made by its identifier and its references
+pub node-made : (known : Known) (ids : List ℕ) (is_root : Bool) (p : SubRecord) (id : ℕ) (refers : List ℕ) → id ≡ id_of p → refers ≡ known_references known p
+    → (let n : Node = record { id = id; is_root = is_root; targets = numbers_of ids refers } in n) ≡ made_node known ids is_root p
+node-made known ids is_root p id refers same all =
+    ap (λ (i : ℕ). let n : Node = record { id = i; is_root = is_root; targets = numbers_of ids refers } in n) same
+    ∙ ap (λ (l : List ℕ). let n : Node = record { id = id_of p; is_root = is_root; targets = numbers_of ids l } in n) all
+
 -- two lists, place by place
 map-zip : (made : Bool → SubRecord → Node) (node : SubRecord → Node) (xs : List Bool) (ys : List SubRecord) → length xs ≡ length ys
     → ((k : ℕ) (d : SubRecord) → k < length ys → made (get_or xs k false) (get_or ys k d) ≡ node (get_or ys k d)) → map (λ x. made x.0 x.1) (zip xs ys) ≡ map node ys

@@ -1,8 +1,9 @@
 //! The graph: nodes, roots and edges.
-ghost use Rattle.std.specs.Prelude.{◌≡◌, ℕ, ◌<◌, ◌||◌, ◌++◌, false, map, length, get_or, nat_eq, position, option_to_list, IfOk, OnOk, zip};
+ghost use Rattle.std.specs.Prelude.{◌≡◌, ℕ, ◌<◌, ◌||◌, [], ◌∷◌, ◌++◌, false, map, length, get_or, nat_eq, position, option_to_list, IfOk, OnOk, zip};
 ghost use Rattle.std.specs.List.{list_any};
 ghost use Rattle.dump_graph.specs.Firsts.{IsApart};
 ghost use Rattle.dump_graph.specs.Graph.{id_of, stands_for_node, nodes, node_ids, roots_it};
+ghost use Rattle.dump_graph.specs.Kept.{AreKept, kept_graph};
 ghost use Rattle.dump_graph.specs.Tables.{made_node, numbers_of, root_id};
 
 use crate::classes::Classes;
@@ -165,10 +166,11 @@ fn graph_of(
     let mut targets = Vec::new(alloc);
     let mut refers = Vec::new(alloc);
     for i in 0..firsts.len() {
-        find_references(classes, firsts[i], &mut refers)?;
+        let first = firsts[i];
+        find_references(classes, first, &mut refers)?;
         add_node(
             numbers,
-            id_of(firsts[i]),
+            id_of(first),
             roots[i],
             &refers,
             &mut nodes,
@@ -205,8 +207,8 @@ impl Model for DumpGraph {
 }
 
 impl DumpGraph {
-    ghost use Rattle.std.specs.Prelude.{◌≡◌, IfOk};
-    ghost use Rattle.dump_graph.specs.Graph.{graph, parts, number_of, id_at, is_root, targets, LeadsWithin};
+    ghost use Rattle.std.specs.Prelude.{◌≡◌, ◌<◌, [], false, map, get_or, length, IfOk};
+    ghost use Rattle.dump_graph.specs.Graph.{graph, parts, number_of, LeadsWithin};
 
     /// The graph of a dump. It takes time for each part of the dump once, and for each round of doubled steps up from the
     /// classes.
@@ -219,7 +221,8 @@ impl DumpGraph {
         let (numbers, firsts) = number_nodes(alloc, &parts)?;
         let roots = mark_roots(alloc, &parts, &numbers, firsts.len())?;
         drop(parts);
-        graph_of(alloc, &classes, &numbers, &roots, &firsts)
+        let graph = graph_of(alloc, &classes, &numbers, &roots, &firsts)?;
+        Ok(graph)
     }
 
     /// How many nodes there are. A node's number is its place in their order.
@@ -232,7 +235,7 @@ impl DumpGraph {
     /// A node's identifier.
     pub fn id(&self, number: usize) -> u32
         requires { number < length self.now }
-        ensures { result ≡ id_at self.now number }
+        ensures { result ≡ get_or (map (λ x. x.id) self.now) number 0 }
     {
         self.nodes[number].id
     }
@@ -240,7 +243,7 @@ impl DumpGraph {
     /// Whether a node is a root.
     pub fn is_root(&self, number: usize) -> bool
         requires { number < length self.now }
-        ensures { result ≡ is_root self.now number }
+        ensures { result ≡ get_or (map (λ x. x.is_root) self.now) number false }
     {
         self.nodes[number].is_root
     }
@@ -249,7 +252,7 @@ impl DumpGraph {
     /// than once.
     pub fn targets(&self, number: usize) -> &[u32]
         requires { number < length self.now }
-        ensures { result.now ≡ targets self.now number }
+        ensures { result.now ≡ get_or (map (λ x. x.targets) self.now) number [] }
     {
         let node = self.nodes[number];
         &self.targets[node.from as usize..node.to as usize]

@@ -33,7 +33,9 @@ impl Guesses {
     /// A guess of an identifier's number.
     pub(crate) fn guess(&self, id: u32) -> Option<usize> {
         let page = self.pages.get((id >> 16) as usize)?;
-        let slot = self.slots.get(page.at as usize + (id % 65_536 / 8) as usize)?;
+        let slot = self
+            .slots
+            .get(page.at as usize + (id % 65_536 / 8) as usize)?;
         Some(page.base as usize + *slot as usize)
     }
 
@@ -76,7 +78,10 @@ impl Guesses {
         let Ok(more) = u16::try_from(more) else {
             return Ok(());
         };
-        if let Some(slot) = self.slots.get_mut(page.at as usize + (id % 65_536 / 8) as usize) {
+        if let Some(slot) = self
+            .slots
+            .get_mut(page.at as usize + (id % 65_536 / 8) as usize)
+        {
             *slot = more;
         }
         Ok(())

@@ -1,4 +1,6 @@
 //! The numbers of identifiers.
+ghost use Rattle.std.specs.Prelude.{◌≡◌, IfOk};
+
 use crate::guesses::Guesses;
 use std::alloc::{AllocError, Global};
 use std::collections::BTreeMap;
@@ -9,7 +11,7 @@ use std::marker::Model;
 #[derive(Drop)]
 pub(crate) struct Numbers {
     ids: Vec<u32>,
-    above: u64,
+    limit: u64,
     rising: Vec<u32>,
     places: Vec<u32>,
     others: BTreeMap<u32, usize>,
@@ -24,7 +26,7 @@ impl Model for Numbers {
 
     ghost view = { λ n. n.ids.items };
 
-    ghost invariant = { λ n. IsNumbering n.ids.items n.above n.rising.items n.places.items n.others };
+    ghost invariant = { λ n. IsNumbering n.ids.items n.limit n.rising.items n.places.items n.others };
 }
 
 /// A count as 4 bytes have it. More nodes or edges than they tell count as want of memory.
@@ -38,7 +40,7 @@ pub(crate) fn narrow(count: usize) -> Result<u32, AllocError>
 }
 
 impl Numbers {
-    ghost use Rattle.std.specs.Prelude.{◌≡◌, ◌↔◌, [], ◌∷◌, ◌++◌, nat_eq, position, true, false, IsNone, IfOk, OnErr};
+    ghost use Rattle.std.specs.Prelude.{◌≡◌, ◌<◌, ◌↔◌, [], ◌∷◌, ◌++◌, nat_eq, position, true, false, All, IsNone, IfOk, OnOk, OnErr};
 
     /// No identifiers. It takes no memory.
     pub(crate) fn new(alloc: Global) -> Numbers
@@ -46,7 +48,7 @@ impl Numbers {
     {
         Numbers {
             ids: Vec::new(alloc),
-            above: 0,
+            limit: 0,
             rising: Vec::new(alloc),
             places: Vec::new(alloc),
             others: BTreeMap::new(alloc),
@@ -80,21 +82,32 @@ impl Numbers {
         ensures new { IfOk result (λ is_new. (is_new ≡ true) ↔ IsNone (position (nat_eq id) self.old)) }
         ensures added { IfOk result (λ is_new. is_new ≡ true → self.new ≡ self.old ++ id ∷ []) }
         ensures known { IfOk result (λ is_new. is_new ≡ false → self.new ≡ self.old) }
+        ensures unchanged { OnErr result (self.new ≡ self.old) }
     {
-        if id as u64 >= self.above {
+        if id as u64 >= self.limit {
             self.add_rising(id)?;
             return Ok(true);
         }
         if self.number_of(id).is_some() {
             return Ok(false);
         }
-        self.add_other(id)?;
-        Ok(true)
+        let number = self.ids.len();
+        self.guesses.note(id, narrow(number)?)?;
+        self.ids.push(id)?;
+        match self.others.insert(id, number) {
+            Ok(_) => Ok(true),
+            Err(failed) => {
+                let _ = self.ids.pop();
+                Err(AllocError::from(failed))
+            }
+        }
     }
 
     /// Adds an identifier that is greater than all others.
     fn add_rising(&mut self, id: u32) -> Result<(), AllocError>
-        requires { self.old.above ≤ id }
+        requires { All (λ other. other < id) self.old }
+        ensures added { OnOk result (self.new ≡ self.old ++ id ∷ []) }
+        ensures unchanged { OnErr result (self.new ≡ self.old) }
     {
         let number = narrow(self.ids.len())?;
         self.guesses.note(id, number)?;
@@ -103,23 +116,9 @@ impl Numbers {
         self.ids.push(id)?;
         match self.rising.push(id) {
             Ok(()) => {
-                self.above = id as u64 + 1;
+                self.limit = id as u64 + 1;
                 Ok(())
             }
-            Err(failed) => {
-                let _ = self.ids.pop();
-                Err(AllocError::from(failed))
-            }
-        }
-    }
-
-    /// Adds an identifier that another one follows.
-    fn add_other(&mut self, id: u32) -> Result<(), AllocError> {
-        let number = self.ids.len();
-        self.guesses.note(id, narrow(number)?)?;
-        self.ids.push(id)?;
-        match self.others.insert(id, number) {
-            Ok(_) => Ok(()),
             Err(failed) => {
                 let _ = self.ids.pop();
                 Err(AllocError::from(failed))
