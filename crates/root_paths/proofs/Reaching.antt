@@ -74,9 +74,6 @@ roots-more g i b is =
 pub reaches-more : (g : List Node) (i : ℕ) (b : Bool) → is_root g i ≡ b → map (root_reach g) (range_with_len 0 (i + 1)) ≡ map (root_reach g) (range_with_len 0 i) ++ cond b (Some (record { level = 0; before = i })) None ∷ []
 reaches-more g i b is = map-range_with_len_more (root_reach g) 0 i i (omega arith) ∙ ap (λ t. map (root_reach g) (range_with_len 0 i) ++ cond t (Some (record { level = 0; before = i })) None ∷ []) is
 
-pub is_root-at : (g : List Node) (i : ℕ) (x : Node) → i < length g → x ≡ get_or g i x → is_root g i ≡ x.is_root
-is_root-at g i x lt is = get_or-map (λ (y : Node). y.is_root) g i x false lt ∙ ap (λ (y : Node). y.is_root) (sym is)
-
 -- the roots
 root-some : (g : List Node) (xs : List ℕ) → length (filter (is_root g) xs) ≡ count_by (is_some {T = Reach}) (map (root_reach g) xs)
 root-some g [] = refl
