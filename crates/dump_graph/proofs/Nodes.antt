@@ -1,20 +1,20 @@
 -- The nodes and roots of a dump, part by part, and the graph that is made of the tables.
-use Rattle.std.proofs.Common.{◌≡◌, ℕ, zero, suc, ◌+◌, ◌<◌, ◌≤◌, ◌||◌, ◌&&◌, Bool, true, false, cond, not, nat_eq, List, [], ◌∷◌, ◌++◌, map, length, get_or, take, Option, None, Some, refl, ap, sym, ◌∙◌, arith, subst, length-append}
+use Rattle.std.proofs.Common.{◌≡◌, ℕ, suc, ◌+◌, ◌<◌, ◌≤◌, ◌&&◌, Bool, true, false, cond, not, nat_eq, List, [], ◌∷◌, ◌++◌, map, length, get_or, take, Option, None, Some, refl, ap, sym, ◌∙◌, arith, subst, length-append}
 use Rattle.std.specs.Prelude.{◌↔◌, position, filter, All, IsNone}
-use Rattle.std.specs.List.{cons_option, filter_map, list_any, zip}
+use Rattle.std.specs.List.{cons_option, list_any, zip}
 use Rattle.std.proofs.lemmas.List.{take_all, take_more, append-nil, get_or-map, length-map, map-append}
 use Rattle.std.proofs.lemmas.Slice.Zip.{get_or-zip, length-zip}
 use Rattle.std.proofs.lemmas.List.Elements.{All-cons, filter-append, filter_map-append}
 use Rattle.hprof_records.specs.declared.sub_record.SubRecord.{SubRecord}
 use Rattle.hprof_records.specs.declared.sub_record.SubRecord.TheVariants.{Root, HeapInfo, ClassDump, Instance, ObjectArray, PrimitiveArray, NoData}
-use Rattle.dump_graph.specs.Classes.{Class, class_of, classes, first_class}
-use Rattle.dump_graph.specs.Firsts.{firsts, with_first, IsApart}
+use Rattle.dump_graph.specs.Classes.{Class, class_of, classes}
+use Rattle.dump_graph.specs.Firsts.{firsts, with_first}
 use Rattle.dump_graph.specs.Graph.{LeadsWithin, Node, graph, id_of, node_ids, node_of, nodes, roots_it, stands_for_node}
 use Rattle.dump_graph.specs.References.{instance_references, references}
 use Rattle.dump_graph.specs.Tables.{Known, known_of, known_references, made_node, numbers_of, root_id}
 use Rattle.dump_graph.proofs.Firsts.{added-known, added-new, find-firsts, firsts-push}
 use Rattle.dump_graph.proofs.Layouts.{codes-same}
-use Rattle.dump_graph.proofs.Positions.{equal_from, position-at}
+use Rattle.dump_graph.proofs.Positions.{position-at}
 
 -- one part more
 pub take-next : (ps : List SubRecord) (i : ℕ) (p : SubRecord) → i < length ps → p ≡ get_or ps i p → take (i + 1) ps ≡ take i ps ++ p ∷ []

@@ -31,6 +31,7 @@ impl Guesses {
     }
 
     /// A guess of an identifier's number.
+    #[inline(always)]
     pub(crate) fn guess(&self, id: u32) -> Option<usize> {
         let page = self.pages.get((id >> 16) as usize)?;
         let slot = self

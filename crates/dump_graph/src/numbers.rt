@@ -57,6 +57,7 @@ impl Numbers {
     }
 
     /// The number of an identifier, by a search.
+    #[inline(never)]
     fn search(&self, id: u32) -> Option<usize>
         ensures { result ≡ position (nat_eq id) self.now }
     {
@@ -67,6 +68,7 @@ impl Numbers {
     }
 
     /// The number of an identifier. `None` exactly where it was not added.
+    #[inline(always)]
     pub(crate) fn number_of(&self, id: u32) -> Option<usize>
         ensures { result ≡ position (nat_eq id) self.now }
     {

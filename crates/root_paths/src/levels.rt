@@ -102,10 +102,7 @@ fn reach_level(
 }
 
 /// How each node is reached, where it is.
-pub(crate) fn reach_all(
-    alloc: Global,
-    graph: &DumpGraph,
-) -> Result<Vec<Option<Reach>>, AllocError>
+pub(crate) fn reach_all(alloc: Global, graph: &DumpGraph) -> Result<Vec<Option<Reach>>, AllocError>
     requires { LeadsWithin graph.now }
     ensures { IfOk result (λ reached. AreReached graph.now reached.items) }
 {

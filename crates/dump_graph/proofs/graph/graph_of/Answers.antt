@@ -1,4 +1,4 @@
-use Rattle.std.proofs.Common.{◌≡◌, ℕ, ◌<◌, ◌++◌, [], ◌∷◌, Bool, false, get_or, Bor, List, ap, sym, ◌∙◌, map, take, length, arith}
+use Rattle.std.proofs.Common.{◌≡◌, ◌++◌, [], ◌∷◌, Bool, false, get_or, Bor, List, ap, sym, ◌∙◌, map, take, length, arith}
 use Rattle.std.specs.List.{zip}
 use Rattle.std.proofs.lemmas.List.{length-map}
 use Rattle.hprof_records.specs.declared.sub_record.SubRecord.{SubRecord}

@@ -1,5 +1,4 @@
-use Rattle.std.proofs.Common.{◌≡◌, arith, ◌<◌, ◌∙◌, List, ℕ, ap, get_or, length, refl, subst, sym}
-use Rattle.dump_graph.specs.Graph.{Node}
+use Rattle.std.proofs.Common.{◌≡◌, arith, ◌<◌, List, ℕ, get_or, length, refl, subst, sym}
 use Rattle.std.specs.Prelude.{All}
 use Rattle.root_paths.specs.Paths.{targets}
 use Rattle.root_paths.specs.Levels.{Led}

@@ -1,4 +1,4 @@
-use Rattle.std.proofs.Common.{arith, ◌∙◌, sym}
+use Rattle.std.proofs.Common.{arith, sym}
 use Rattle.std.proofs.lemmas.Grind.{common_steps}
 use Rattle.root_paths.proofs.Reaching.{reaches-more, roots-more}
 use Rattle.root_paths.proofs.levels.reach_roots.Goals as goal

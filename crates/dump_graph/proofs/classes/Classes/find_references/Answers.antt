@@ -1,4 +1,4 @@
-use Rattle.std.proofs.Common.{◌≡◌, ◌++◌, ap, sym, ◌∙◌}
+use Rattle.std.proofs.Common.{◌++◌, ap, sym, ◌∙◌}
 use Rattle.dump_graph.specs.Climbing.{gathered}
 use Rattle.dump_graph.specs.References.{references_in}
 use Rattle.dump_graph.proofs.ReadAll.{laid-fits, laid-none, laid-unfit}

@@ -1,4 +1,4 @@
-use Rattle.std.proofs.Common.{◌≡◌, ℕ, ◌<◌, Bor, List, ap, sym, subst, ◌∙◌, map, length}
+use Rattle.std.proofs.Common.{◌≡◌, ◌<◌, Bor, List, ap, sym, subst, ◌∙◌, map}
 use Rattle.std.proofs.lemmas.List.{length-map}
 use Rattle.hprof_records.specs.declared.sub_record.SubRecord.{SubRecord}
 use Rattle.dump_graph.specs.Classes.{classes}

@@ -1,4 +1,4 @@
-use Rattle.std.proofs.Common.{◌≡◌, Err, nat_eq, ap, ◌∙◌}
+use Rattle.std.proofs.Common.{Err, nat_eq, ap, ◌∙◌}
 use Rattle.std.specs.Prelude.{position}
 use Rattle.std.proofs.lemmas.List.Sorted.{searched}
 use Rattle.dump_graph.proofs.Numberings.{searched-past}
