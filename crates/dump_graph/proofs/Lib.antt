@@ -9,3 +9,4 @@ pub mod ReadAll
 pub mod Nodes
 pub mod Marks
 pub mod Kept
+pub mod Superclasses

@@ -8,3 +8,4 @@ pub mod Tables
 pub mod ClassTable
 pub mod Reading
 pub mod Kept
+pub mod Superclasses

@@ -5,9 +5,11 @@ mod classes;
 mod climb;
 mod graph;
 mod guesses;
+mod laws;
 mod node;
 mod numbers;
 mod parts;
 mod references;
 
 pub use graph::DumpGraph;
+pub use laws::layouts_lead_up;
