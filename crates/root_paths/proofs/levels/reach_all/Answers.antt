@@ -1,6 +1,7 @@
 use Rattle.std.proofs.Common.{◌≡◌, ◌+◌, ◌<◌, arith, length, refl}
 use Rattle.std.proofs.lemmas.Grind.{common_steps}
-use Rattle.root_paths.proofs.Reaching.{all-reached, below-level, last-within, level-more, roots-reached, written-back}
+use Rattle.dump_graph.proofs.Marks.{written-back}
+use Rattle.root_paths.proofs.Reaching.{all-reached, below-level, last-within, level-more, roots-reached}
 use Rattle.root_paths.proofs.levels.reach_all.Goals as goal
 
 pub loop-alloc-init : goal.loop-alloc-init
