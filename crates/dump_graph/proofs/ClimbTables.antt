@@ -1,5 +1,5 @@
 -- The climbs from all classes, as lists.
-use Rattle.std.proofs.Common.{◌≡◌, ℕ, zero, suc, ◌+◌, ◌<◌, List, map, length, get_or, Option, None, Some, refl, ap, sym, ◌∙◌, arith, subst, ◌*◌, ◌/◌, ◌%◌}
+use Rattle.std.proofs.Common.{◌≡◌, ℕ, ◌+◌, ◌<◌, List, map, length, get_or, Option, None, Some, refl, ap, sym, ◌∙◌, arith, subst, ◌*◌}
 use Rattle.std.specs.Prelude.{All}
 use Rattle.std.proofs.Math.Nat.{add-mul, mul-add, zero-mul}
 use Rattle.std.specs.Option.{option_or}

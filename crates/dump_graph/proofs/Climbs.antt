@@ -1,11 +1,10 @@
 -- Climbs: put together, and what they gather.
-use Rattle.std.proofs.Common.{◌≡◌, ℕ, zero, suc, ◌+◌, ◌<◌, ◌≤◌, Bool, true, false, cond, nat_eq, List, [], ◌∷◌, ◌++◌, map, length, get_or, Option, None, Some, option_map, refl, ap, sym, ◌∙◌, arith, subst, append_assoc, zero-add, suc-add}
-use Rattle.std.specs.Prelude.{position, option_and_then}
+use Rattle.std.proofs.Common.{◌≡◌, ℕ, zero, suc, ◌+◌, ◌<◌, Bool, true, false, cond, nat_eq, List, [], ◌∷◌, map, length, get_or, Option, None, Some, refl, ap, sym, ◌∙◌, arith, subst, zero-add, suc-add}
+use Rattle.std.specs.Prelude.{position}
 use Rattle.std.specs.Option.{option_or}
-use Rattle.std.proofs.lemmas.List.{append-nil, get_or-map, length-map}
-use Rattle.std.proofs.lemmas.Grind.{common_steps}
-use Rattle.dump_graph.specs.Classes.{Class, first_class, codes_within}
-use Rattle.dump_graph.specs.Climbing.{AreClimbs, ComesWithin, climb, codes_above, gathered, if_fielded, join, join_at, lost, own_codes, standing, step, step_from, step_to}
+use Rattle.std.proofs.lemmas.List.{get_or-map, length-map}
+use Rattle.dump_graph.specs.Classes.{Class}
+use Rattle.dump_graph.specs.Climbing.{ComesWithin, climb, join, join_at, lost, step, step_from, step_to}
 use Rattle.dump_graph.specs.declared.climb.Climb.{Climb}
 use Rattle.dump_graph.specs.declared.climb.Up.{Up}
 use Rattle.dump_graph.specs.declared.climb.Up.TheVariants.{Top, Above, Lost}

@@ -6,7 +6,7 @@ use Rattle.std.specs.List.{find, list_any}
 use Rattle.std.proofs.lemmas.List.{append-nil}
 use Rattle.std.proofs.lemmas.List.Elements.{filter-append}
 use Rattle.dump_graph.specs.Firsts.{firsts, with_first}
-use Rattle.dump_graph.proofs.Positions.{any-none, equal_from, nat_eq-sym, nat_eq-same, position-none}
+use Rattle.dump_graph.proofs.Positions.{any-none, equal_from, nat_eq-sym, position-none}
 
 pub none-is : {X : Type 0} (o : Option X) → IsNone o → o ≡ None
 none-is None none = refl

@@ -1,11 +1,11 @@
 -- The layout of a class, by the climb from it.
-use Rattle.std.proofs.Common.{◌≡◌, ℕ, zero, suc, ◌+◌, ◌<◌, ◌≤◌, Bool, true, false, cond, nat_eq, List, [], ◌∷◌, ◌++◌, map, length, get_or, Option, None, Some, option_map, refl, ap, sym, ◌∙◌, arith, subst}
+use Rattle.std.proofs.Common.{◌≡◌, ℕ, zero, suc, ◌<◌, Bool, true, false, cond, nat_eq, List, [], ◌∷◌, ◌++◌, map, length, get_or, Option, None, Some, option_map, refl, ap, sym, ◌∙◌, arith, subst}
 use Rattle.std.specs.Prelude.{position, option_and_then}
 use Rattle.std.specs.Option.{option_or}
 use Rattle.std.proofs.lemmas.List.{append-nil, get_or-map, length-map}
 use Rattle.dump_graph.specs.Classes.{Class, first_class, codes_within}
 use Rattle.dump_graph.specs.ClassTable.{if_top, laid_out}
-use Rattle.dump_graph.specs.Climbing.{ComesWithin, climb, codes_above, gathered, if_fielded, join_at, lost, own_codes, standing, step, step_from, step_to}
+use Rattle.dump_graph.specs.Climbing.{ComesWithin, climb, codes_above, gathered, if_fielded, join_at, lost, own_codes, step, step_from, step_to}
 use Rattle.dump_graph.specs.declared.climb.Climb.{Climb}
 use Rattle.dump_graph.specs.declared.climb.Up.{Up}
 use Rattle.dump_graph.specs.declared.climb.Up.TheVariants.{Top, Above, Lost}

@@ -8,3 +8,5 @@ pub mod Layouts
 pub mod ReadAll
 pub mod Nodes
 pub mod Marks
+pub mod Kept
+pub mod Superclasses

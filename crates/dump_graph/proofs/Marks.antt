@@ -1,5 +1,5 @@
 -- The marks of roots.
-use Rattle.std.proofs.Common.{◌≡◌, ◌≢◌, ℕ, ◌+◌, ◌<◌, ◌≤◌, ◌||◌, Bool, true, false, nat_eq, List, [], ◌∷◌, ◌++◌, length, get_or, take, drop, Option, None, Some, refl, ap, sym, ◌∙◌, arith, subst}
+use Rattle.std.proofs.Common.{◌≡◌, ◌≢◌, ℕ, ◌+◌, ◌<◌, ◌≤◌, ◌||◌, Bool, true, false, nat_eq, List, [], ◌∷◌, ◌++◌, length, get_or, take, drop, None, Some, refl, ap, sym, ◌∙◌, arith, subst}
 use Rattle.std.specs.Prelude.{position}
 use Rattle.std.specs.List.{list_any, slice_set}
 use Rattle.std.proofs.lemmas.List.Folds.{list_any_at}
@@ -11,7 +11,7 @@ use Rattle.dump_graph.specs.Firsts.{IsApart}
 use Rattle.dump_graph.specs.Graph.{roots_it}
 use Rattle.dump_graph.specs.Tables.{root_id}
 use Rattle.dump_graph.proofs.Nodes.{roots-none, roots-some, take-next}
-use Rattle.dump_graph.proofs.Positions.{equal_from, nat_eq-same, position-at, position-none}
+use Rattle.dump_graph.proofs.Positions.{equal_from, position-at, position-none}
 
 or-false : (a : Bool) → a ≡ (a || false)
 or-false true = refl

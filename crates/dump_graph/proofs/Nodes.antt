@@ -1,20 +1,20 @@
 -- The nodes and roots of a dump, part by part, and the graph that is made of the tables.
-use Rattle.std.proofs.Common.{◌≡◌, ℕ, zero, suc, ◌+◌, ◌<◌, ◌≤◌, ◌||◌, ◌&&◌, Bool, true, false, cond, not, nat_eq, List, [], ◌∷◌, ◌++◌, map, length, get_or, take, Option, None, Some, refl, ap, sym, ◌∙◌, arith, subst, length-append}
+use Rattle.std.proofs.Common.{◌≡◌, ℕ, suc, ◌+◌, ◌<◌, ◌≤◌, ◌&&◌, Bool, true, false, cond, not, nat_eq, List, [], ◌∷◌, ◌++◌, map, length, get_or, take, Option, None, Some, refl, ap, sym, ◌∙◌, arith, subst, length-append}
 use Rattle.std.specs.Prelude.{◌↔◌, position, filter, All, IsNone}
-use Rattle.std.specs.List.{cons_option, filter_map, list_any, zip}
+use Rattle.std.specs.List.{cons_option, list_any, zip}
 use Rattle.std.proofs.lemmas.List.{take_all, take_more, append-nil, get_or-map, length-map, map-append}
 use Rattle.std.proofs.lemmas.Slice.Zip.{get_or-zip, length-zip}
 use Rattle.std.proofs.lemmas.List.Elements.{All-cons, filter-append, filter_map-append}
 use Rattle.hprof_records.specs.declared.sub_record.SubRecord.{SubRecord}
 use Rattle.hprof_records.specs.declared.sub_record.SubRecord.TheVariants.{Root, HeapInfo, ClassDump, Instance, ObjectArray, PrimitiveArray, NoData}
-use Rattle.dump_graph.specs.Classes.{Class, class_of, classes, first_class}
-use Rattle.dump_graph.specs.Firsts.{firsts, with_first, IsApart}
+use Rattle.dump_graph.specs.Classes.{Class, class_of, classes}
+use Rattle.dump_graph.specs.Firsts.{firsts, with_first}
 use Rattle.dump_graph.specs.Graph.{LeadsWithin, Node, graph, id_of, node_ids, node_of, nodes, roots_it, stands_for_node}
 use Rattle.dump_graph.specs.References.{instance_references, references}
 use Rattle.dump_graph.specs.Tables.{Known, known_of, known_references, made_node, numbers_of, root_id}
 use Rattle.dump_graph.proofs.Firsts.{added-known, added-new, find-firsts, firsts-push}
 use Rattle.dump_graph.proofs.Layouts.{codes-same}
-use Rattle.dump_graph.proofs.Positions.{equal_from, position-at}
+use Rattle.dump_graph.proofs.Positions.{position-at}
 
 -- one part more
 pub take-next : (ps : List SubRecord) (i : ℕ) (p : SubRecord) → i < length ps → p ≡ get_or ps i p → take (i + 1) ps ≡ take i ps ++ p ∷ []
@@ -138,6 +138,13 @@ made-same : (ps : List SubRecord) (b : Bool) (p : SubRecord) → b ≡ list_any 
 made-same ps b p is =
     ap (λ (r : Bool). let n : Node = record { id = id_of p; is_root = r; targets = numbers_of (node_ids ps) (known_references (known_of (classes ps)) p) } in n) is
     ∙ ap (λ (l : List ℕ). let n : Node = record { id = id_of p; is_root = list_any (roots_it (id_of p)) ps; targets = numbers_of (node_ids ps) l } in n) (known-same (classes ps) p)
+
+-- a node is made by its identifier and its references
+pub node-made : (known : Known) (ids : List ℕ) (is_root : Bool) (p : SubRecord) (id : ℕ) (refers : List ℕ) → id ≡ id_of p → refers ≡ known_references known p
+    → (let n : Node = record { id = id; is_root = is_root; targets = numbers_of ids refers } in n) ≡ made_node known ids is_root p
+node-made known ids is_root p id refers same all =
+    ap (λ (i : ℕ). let n : Node = record { id = i; is_root = is_root; targets = numbers_of ids refers } in n) same
+    ∙ ap (λ (l : List ℕ). let n : Node = record { id = id_of p; is_root = is_root; targets = numbers_of ids l } in n) all
 
 -- two lists, place by place
 map-zip : (made : Bool → SubRecord → Node) (node : SubRecord → Node) (xs : List Bool) (ys : List SubRecord) → length xs ≡ length ys

@@ -1,6 +1,6 @@
 -- Places of numbers in lists.
-use Rattle.std.proofs.Common.{◌≡◌, ℕ, zero, suc, ◌+◌, ◌<◌, ◌≤◌, ◌||◌, Bool, true, false, cond, not, nat_eq, nat_lt, List, [], ◌∷◌, ◌++◌, map, length, get_or, Option, None, Some, option_map, refl, ap, sym, ◌∙◌, arith, length-append, subst}
-use Rattle.std.specs.Prelude.{position, filter}
+use Rattle.std.proofs.Common.{◌≡◌, ℕ, suc, ◌+◌, ◌<◌, ◌≤◌, ◌||◌, Bool, true, false, cond, not, nat_eq, nat_lt, List, [], ◌∷◌, ◌++◌, map, length, get_or, Option, None, Some, option_map, refl, ap, sym, ◌∙◌, arith, length-append, subst}
+use Rattle.std.specs.Prelude.{position}
 use Rattle.std.specs.List.{find, list_any, position_or_len}
 use Rattle.std.specs.Option.{option_or}
 use Rattle.std.proofs.lemmas.List.Sums.{passes_at_first, fails_before_first}

@@ -1,12 +1,12 @@
 -- The reading of an instance's values, class by class upwards.
-use Rattle.std.proofs.Common.{◌≡◌, ℕ, zero, suc, ◌+◌, ◌-◌, ◌<◌, ◌≤◌, Bool, true, false, cond, nat_eq, List, [], ◌∷◌, ◌++◌, drop, length, get_or, Option, None, Some, option_map, refl, ap, sym, ◌∙◌, arith, subst, append_assoc, length-drop}
+use Rattle.std.proofs.Common.{◌≡◌, ℕ, ◌+◌, ◌-◌, ◌<◌, ◌≤◌, Bool, true, false, cond, nat_eq, List, [], ◌++◌, drop, length, get_or, Option, None, Some, option_map, refl, ap, sym, ◌∙◌, arith, subst, append_assoc, length-drop}
 use Rattle.std.specs.Prelude.{sum_by}
 use Rattle.std.proofs.lemmas.List.{append-nil, get_or-map, get_or_default}
 use Rattle.std.proofs.lemmas.List.Sums.{sum_by-append}
 use Rattle.std.proofs.lemmas.Grind.{common_steps}
 use Rattle.hprof_records.specs.Types.{value_bytes}
 use Rattle.dump_graph.specs.Classes.{Class, codes_within}
-use Rattle.dump_graph.specs.Climbing.{AreClimbs, climb, gathered, join, join_at, lost, own_codes, step}
+use Rattle.dump_graph.specs.Climbing.{AreClimbs, climb, gathered, join, join_at, lost, own_codes}
 use Rattle.dump_graph.specs.ClassTable.{laid_out}
 use Rattle.dump_graph.specs.References.{instance_references, references_in}
 use Rattle.dump_graph.specs.Reading.{HasRead, IsLeft}

@@ -1,5 +1,5 @@
 -- The classes of a dump, and which fields the instances of a class have.
-use Rattle.std.specs.Prelude.{ℕ, zero, suc, Bool, nat_eq, List, ◌++◌, map, length, Option, None, Some, option_map, option_and_then, if◌then◌else◌}
+use Rattle.std.specs.Prelude.{ℕ, zero, suc, nat_eq, List, ◌++◌, map, length, Option, None, Some, option_map, option_and_then, if◌then◌else◌}
 use Rattle.std.specs.List.{find, filter_map}
 use Rattle.hprof_records.specs.declared.sub_record.SubRecord.{SubRecord}
 use Rattle.hprof_records.specs.declared.sub_record.SubRecord.TheVariants.{ClassDump}

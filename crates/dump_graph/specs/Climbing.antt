@@ -1,5 +1,5 @@
 -- Steps up from a class to its superclasses, where classes go by their numbers. These are words of the code.
-use Rattle.std.specs.Prelude.{◌≡◌, ℕ, zero, suc, ◌+◌, ◌*◌, ◌<◌, Bool, nat_eq, List, [], ◌∷◌, ◌++◌, map, length, get_or, position, Option, None, Some, if◌then◌else◌}
+use Rattle.std.specs.Prelude.{◌≡◌, ℕ, zero, suc, ◌+◌, ◌*◌, ◌<◌, nat_eq, List, [], ◌∷◌, ◌++◌, map, length, get_or, position, Option, None, Some, if◌then◌else◌}
 use Rattle.std.specs.Option.{option_or}
 use Rattle.dump_graph.specs.Classes.{Class}
 use Rattle.dump_graph.specs.declared.climb.Climb.{Climb}

@@ -1,11 +1,11 @@
 -- The graph of a dump: its classes and objects, which of them are roots, and the edges between them.
-use Rattle.std.specs.Prelude.{ℕ, ◌<◌, Bool, true, false, ◌&&◌, not, nat_eq, List, [], ◌∷◌, map, filter, length, position, All, Option}
+use Rattle.std.specs.Prelude.{ℕ, ◌<◌, Bool, true, false, ◌&&◌, not, nat_eq, List, [], map, filter, length, position, All, Option}
 use Rattle.std.specs.List.{filter_map, flat_map, list_any}
 use Rattle.hprof_records.specs.declared.sub_record.SubRecord.{SubRecord}
 use Rattle.hprof_records.specs.declared.sub_record.SubRecord.TheVariants.{Root, HeapInfo, ClassDump, Instance, ObjectArray, PrimitiveArray, NoData}
 use Rattle.hprof_records.specs.declared.top_record.TopRecord.{TopRecord}
 use Rattle.hprof_records.specs.declared.top_record.TopRecord.TheVariants.{Segment}
-use Rattle.dump_graph.specs.Classes.{Class, classes}
+use Rattle.dump_graph.specs.Classes.{classes}
 use Rattle.dump_graph.specs.Firsts.{firsts}
 use Rattle.dump_graph.specs.References.{references}
 

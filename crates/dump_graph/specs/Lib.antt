@@ -7,3 +7,5 @@ pub mod Climbing
 pub mod Tables
 pub mod ClassTable
 pub mod Reading
+pub mod Kept
+pub mod Superclasses

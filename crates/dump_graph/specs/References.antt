@@ -1,5 +1,5 @@
 -- To what a part of a dump refers.
-use Rattle.std.specs.Prelude.{ℕ, Bool, nat_eq, nat_le, List, [], ◌∷◌, length, take, drop, sum_by, Option, None, Some, if◌then◌else◌}
+use Rattle.std.specs.Prelude.{ℕ, nat_eq, nat_le, List, [], ◌∷◌, length, take, drop, sum_by, Option, None, Some, if◌then◌else◌}
 use Rattle.std.specs.List.{cons_option, filter_map}
 use Rattle.std.specs.Int.{w32, from_be_bytes}
 use Rattle.hprof_records.specs.declared.sub_record.SubRecord.{SubRecord}

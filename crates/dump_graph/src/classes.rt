@@ -181,23 +181,23 @@ impl Classes {
         Ok(rest.is_empty())
     }
 
-    /// The references among the values of an instance of a class: none where it has no layout.
-    pub(crate) fn references(
+    /// Finds the references among the values of an instance of a class: none where it has no layout. What was found
+    /// before is taken out.
+    pub(crate) fn find_references(
         &self,
-        alloc: Global,
         class: u32,
         bytes: &[u8],
-    ) -> Result<Vec<u32>, AllocError>
-        ensures { IfOk result (λ r. r.items ≡ instance_references (codes_within self.now.first self.now.dumps class) bytes.now) }
+        found: &mut Vec<u32>,
+    ) -> Result<(), AllocError>
+        ensures { OnOk result (found.new.items ≡ instance_references (codes_within self.now.first self.now.dumps class) bytes.now) }
     {
+        found.clear();
         let Some(number) = self.laid_out(class) else {
-            return Ok(Vec::new(alloc));
+            return Ok(());
         };
-        let mut found = Vec::new(alloc);
-        if self.read_values(number, bytes, &mut found)? {
-            Ok(found)
-        } else {
-            Ok(Vec::new(alloc))
+        if !self.read_values(number, bytes, found)? {
+            found.clear();
         }
+        Ok(())
     }
 }

@@ -1,15 +1,16 @@
 //! The graph: nodes, roots and edges.
-ghost use Rattle.std.specs.Prelude.{◌≡◌, ℕ, ◌<◌, ◌||◌, ◌++◌, false, map, length, get_or, nat_eq, position, option_to_list, IfOk, OnOk, zip};
+ghost use Rattle.std.specs.Prelude.{◌≡◌, ℕ, ◌<◌, ◌||◌, [], ◌∷◌, ◌++◌, false, map, length, get_or, nat_eq, position, option_to_list, IfOk, OnOk, zip};
 ghost use Rattle.std.specs.List.{list_any};
 ghost use Rattle.dump_graph.specs.Firsts.{IsApart};
 ghost use Rattle.dump_graph.specs.Graph.{id_of, stands_for_node, nodes, node_ids, roots_it};
+ghost use Rattle.dump_graph.specs.Kept.{AreKept, kept_graph};
 ghost use Rattle.dump_graph.specs.Tables.{made_node, numbers_of, root_id};
 
-use crate::GraphNode;
 use crate::classes::Classes;
-use crate::numbers::Numbers;
+use crate::node::KeptNode;
+use crate::numbers::{Numbers, narrow};
 use crate::parts::parts_of;
-use crate::references::references;
+use crate::references::find_references;
 use hprof_read::Dump;
 use hprof_records::SubRecord;
 use std::alloc::{AllocError, Global};
@@ -106,87 +107,107 @@ fn mark_roots(
 }
 
 /// Puts the number of an identifier behind others, if a node has it.
-fn add_number(numbers: &Numbers, id: u32, found: &mut Vec<usize>) -> Result<(), AllocError>
+fn add_number(numbers: &Numbers, id: u32, found: &mut Vec<u32>) -> Result<(), AllocError>
     ensures { OnOk result (found.new.items ≡ found.old.items ++ option_to_list (position (nat_eq id) numbers.now)) }
 {
     if let Some(number) = numbers.number_of(id) {
-        found.push(number)?;
+        found.push(narrow(number)?)?;
     }
     Ok(())
 }
 
-/// The numbers of the nodes among identifiers.
-fn numbers_of(alloc: Global, numbers: &Numbers, ids: &[u32]) -> Result<Vec<usize>, AllocError>
-    ensures { IfOk result (λ r. r.items ≡ numbers_of numbers.now ids.now) }
+/// Puts the numbers of the nodes among identifiers behind others.
+fn add_numbers(numbers: &Numbers, ids: &[u32], found: &mut Vec<u32>) -> Result<(), AllocError>
+    ensures { OnOk result (found.new.items ≡ found.old.items ++ numbers_of numbers.now ids.now) }
 {
-    let mut found = Vec::new(alloc);
     for id in ids {
-        add_number(numbers, *id, &mut found)?;
+        add_number(numbers, *id, found)?;
     }
-    Ok(found)
+    Ok(())
 }
 
-/// A node, by its first part.
-fn node_of(
-    alloc: Global,
-    classes: &Classes,
+/// Puts a node behind others, with the numbers of the nodes among the identifiers to which it refers.
+fn add_node(
     numbers: &Numbers,
+    id: u32,
     is_root: bool,
-    first: &SubRecord,
-) -> Result<GraphNode, AllocError>
-    ensures { IfOk result (λ n. n ≡ made_node classes.now numbers.now is_root first.now) }
+    refers: &[u32],
+    nodes: &mut Vec<KeptNode>,
+    targets: &mut Vec<u32>,
+) -> Result<(), AllocError>
+    requires { AreKept nodes.old.items targets.old.items }
+    ensures kept { OnOk result (AreKept nodes.new.items targets.new.items) }
+    ensures graph { OnOk result (kept_graph targets.new.items nodes.new.items ≡ kept_graph targets.old.items nodes.old.items ++ record { id = id; is_root = is_root; targets = numbers_of numbers.now refers.now } ∷ []) }
 {
-    let refers = references(alloc, classes, first)?;
-    let targets = numbers_of(alloc, numbers, &refers)?;
-    Ok(GraphNode {
-        id: id_of(first),
+    let from = narrow(targets.len())?;
+    add_numbers(numbers, refers, targets)?;
+    let to = narrow(targets.len())?;
+    nodes.push(KeptNode {
+        id,
         is_root,
-        targets,
-    })
+        from,
+        to,
+    })?;
+    Ok(())
 }
 
-/// The nodes, by their first parts.
-fn nodes_of(
+/// The graph of the nodes with these first parts.
+fn graph_of(
     alloc: Global,
     classes: &Classes,
     numbers: &Numbers,
     roots: &[bool],
     firsts: &[&SubRecord],
-) -> Result<Vec<GraphNode>, AllocError>
+) -> Result<DumpGraph, AllocError>
     requires { length roots.now ≡ length firsts.now }
-    ensures { IfOk result (λ r. r.items ≡ map (λ x. made_node classes.now numbers.now x.0 x.1) (zip roots.now (map (λ p. p.now) firsts.now))) }
+    ensures { IfOk result (λ g. g ≡ map (λ x. made_node classes.now numbers.now x.0 x.1) (zip roots.now (map (λ p. p.now) firsts.now))) }
 {
     let mut nodes = Vec::with_capacity(alloc, firsts.len())?;
+    let mut targets = Vec::new(alloc);
+    let mut refers = Vec::new(alloc);
     for i in 0..firsts.len() {
-        nodes.push(node_of(alloc, classes, numbers, roots[i], firsts[i])?)?;
+        let first = firsts[i];
+        find_references(classes, first, &mut refers)?;
+        add_node(
+            numbers,
+            id_of(first),
+            roots[i],
+            &refers,
+            &mut nodes,
+            &mut targets,
+        )?;
     }
-    Ok(nodes)
+    Ok(DumpGraph { nodes, targets })
 }
 
 /// The first place of a node with an identifier.
-fn place_of(nodes: &[GraphNode], id: u32) -> Option<usize>
+fn place_of(nodes: &[KeptNode], id: u32) -> Option<usize>
     ensures { result ≡ position (λ x. nat_eq x.id id) nodes.now }
 {
-    nodes.iter().position(|node| node.id() == id)
+    nodes.iter().position(|node| node.id == id)
 }
 
-/// The graph of a dump: its nodes in order, each with its edges.
+/// The graph of a dump: its nodes in order, and the targets of their edges.
 #[derive(Drop)]
 pub struct DumpGraph {
-    nodes: Vec<GraphNode>,
+    nodes: Vec<KeptNode>,
+    targets: Vec<u32>,
 }
 
 impl Model for DumpGraph {
     ghost use Rattle.std.specs.Prelude.{List};
     ghost use Rattle.dump_graph.specs.Graph.{Node};
+    ghost use Rattle.dump_graph.specs.Kept.{kept_graph, AreKept};
 
     ghost Value = { List Node };
 
-    ghost view = { λ g. g.nodes.items };
+    ghost view = { λ g. kept_graph g.targets.items g.nodes.items };
+
+    ghost invariant = { λ g. AreKept g.nodes.items g.targets.items };
 }
 
 impl DumpGraph {
-    ghost use Rattle.std.specs.Prelude.{◌≡◌, IfOk};
+    ghost use Rattle.std.specs.Prelude.{◌≡◌, ◌<◌, [], false, map, get_or, length, IfOk};
     ghost use Rattle.dump_graph.specs.Graph.{graph, parts, number_of, LeadsWithin};
 
     /// The graph of a dump. It takes time for each part of the dump once, and for each round of doubled steps up from the
@@ -199,15 +220,42 @@ impl DumpGraph {
         let classes = Classes::of(alloc, &parts)?;
         let (numbers, firsts) = number_nodes(alloc, &parts)?;
         let roots = mark_roots(alloc, &parts, &numbers, firsts.len())?;
-        let nodes = nodes_of(alloc, &classes, &numbers, &roots, &firsts)?;
-        Ok(DumpGraph { nodes })
+        drop(parts);
+        let graph = graph_of(alloc, &classes, &numbers, &roots, &firsts)?;
+        Ok(graph)
     }
 
-    /// The nodes, in order: a node's number is its place here.
-    pub fn nodes(&self) -> &[GraphNode]
-        ensures { result.now ≡ self.now }
+    /// How many nodes there are. A node's number is its place in their order.
+    pub fn len(&self) -> usize
+        ensures { result ≡ length self.now }
     {
-        &self.nodes
+        self.nodes.len()
+    }
+
+    /// A node's identifier.
+    pub fn id(&self, number: usize) -> u32
+        requires { number < length self.now }
+        ensures { result ≡ get_or (map (λ x. x.id) self.now) number 0 }
+    {
+        self.nodes[number].id
+    }
+
+    /// Whether a node is a root.
+    pub fn is_root(&self, number: usize) -> bool
+        requires { number < length self.now }
+        ensures { result ≡ get_or (map (λ x. x.is_root) self.now) number false }
+    {
+        self.nodes[number].is_root
+    }
+
+    /// The numbers of the nodes to which a node has an edge, in the order of its references. One may stand there more
+    /// than once.
+    pub fn targets(&self, number: usize) -> &[u32]
+        requires { number < length self.now }
+        ensures { result.now ≡ get_or (map (λ x. x.targets) self.now) number [] }
+    {
+        let node = self.nodes[number];
+        &self.targets[node.from as usize..node.to as usize]
     }
 
     /// The number of the node with an identifier. `None` exactly where no node has it.

@@ -4,10 +4,12 @@
 mod classes;
 mod climb;
 mod graph;
+mod guesses;
+mod laws;
 mod node;
 mod numbers;
 mod parts;
 mod references;
 
 pub use graph::DumpGraph;
-pub use node::GraphNode;
+pub use laws::layouts_lead_up;

@@ -7,7 +7,7 @@ ghost use Rattle.dump_graph.specs.Tables.{known_references};
 
 use crate::classes::Classes;
 use hprof_records::{Bytes, SubRecord, TypeCode, u32_at};
-use std::alloc::{AllocError, Global};
+use std::alloc::AllocError;
 
 /// The code of the type of references.
 const REFERENCE: u8 = 2;
@@ -65,34 +65,37 @@ pub(crate) fn read_fields<'a>(
     Ok(Some(rest))
 }
 
-/// The references among static fields.
-fn static_references(alloc: Global, statics: &[(u32, u8, Bytes)]) -> Result<Vec<u32>, AllocError>
-    ensures { IfOk result (λ r. r.items ≡ filter_map (λ s. reference s.1 s.2) statics.now) }
+/// Puts the references among static fields behind others.
+fn add_static_references(
+    statics: &[(u32, u8, Bytes)],
+    found: &mut Vec<u32>,
+) -> Result<(), AllocError>
+    ensures { OnOk result (found.new.items ≡ found.old.items ++ filter_map (λ s. reference s.1 s.2) statics.now) }
 {
-    let mut found = Vec::new(alloc);
     for one in statics {
-        add_reference(one.1, one.2.as_slice(), &mut found)?;
+        add_reference(one.1, one.2.as_slice(), found)?;
     }
-    Ok(found)
+    Ok(())
 }
 
-/// The identifiers to which a part refers.
-pub(crate) fn references(
-    alloc: Global,
+/// Finds the identifiers to which a part refers. What was found before is taken out.
+pub(crate) fn find_references(
     classes: &Classes,
     part: &SubRecord,
-) -> Result<Vec<u32>, AllocError>
-    ensures { IfOk result (λ r. r.items ≡ known_references classes.now part.now) }
+    found: &mut Vec<u32>,
+) -> Result<(), AllocError>
+    ensures { OnOk result (found.new.items ≡ known_references classes.now part.now) }
 {
+    found.clear();
     match part {
         SubRecord::Instance { class, bytes, .. } => {
-            classes.references(alloc, *class, bytes.as_slice())
+            classes.find_references(*class, bytes.as_slice(), found)
         }
-        SubRecord::ObjectArray { items, .. } => Vec::from_slice(alloc, items.as_slice()),
-        SubRecord::ClassDump { statics, .. } => static_references(alloc, statics.as_slice()),
+        SubRecord::ObjectArray { items, .. } => found.extend_from_slice(items.as_slice()),
+        SubRecord::ClassDump { statics, .. } => add_static_references(statics.as_slice(), found),
         SubRecord::Root { .. }
         | SubRecord::HeapInfo { .. }
         | SubRecord::PrimitiveArray { .. }
-        | SubRecord::NoData { .. } => Ok(Vec::new(alloc)),
+        | SubRecord::NoData { .. } => Ok(()),
     }
 }

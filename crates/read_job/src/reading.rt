@@ -37,7 +37,7 @@ fn take_and_tell<S: Source, W: Sink>(
     ensures sink_faults { W.fault_count sink.old ≤ W.fault_count sink.new }
 {
     let text = take_input(alloc, source)?;
-    tell(alloc, question, &text, sink)
+    tell(alloc, question, text, sink)
 }
 
 /// Reads a dump of at most 268,435,456 bytes from the source, at most 4,096 bytes at a time, and puts what is asked of it:

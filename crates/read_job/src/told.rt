@@ -1,7 +1,10 @@
 //! What is put of a text: what is asked of it where it is a dump, and else the line that tells its first fault.
-ghost use Rattle.std.specs.Prelude.{◌≡◌, ◌≢◌, ◌≤◌, MatchResult};
+ghost use Rattle.std.specs.Prelude.{◌≡◌, ◌≢◌, ◌<◌, ◌≤◌, ◌^◌, IfErr, IfOk, MatchResult};
 ghost use Rattle.ah_outside.specs.Outside.{Gained};
 ghost use Rattle.hprof_list.specs.Putting.{Puts};
+ghost use Rattle.hprof_read.specs.Fault.{IsFirstFault};
+ghost use Rattle.hprof_records.specs.Dump.{AreRecords};
+ghost use Rattle.hprof_records.specs.Records.{dump_bytes};
 ghost use Rattle.read_job.specs.Ends.{fault_line, fault_number, numbered_line, told_of};
 ghost use Rattle.read_job.specs.Telling.{StoppedDump, StoppedFault, StoppedTelling, Told};
 
@@ -88,20 +91,28 @@ fn tell_dump<W: Sink>(
     }
 }
 
+/// The dump whose bytes a text has. The text is let go.
+fn dump_of(alloc: Global, text: Vec<u8>) -> Result<Dump, ReadError>
+    ensures dump { IfOk result (λ d. (d.time < 2 ^ 64) × AreRecords d.top × (text.items ≡ dump_bytes d.time d.top)) }
+    ensures fault { IfErr result (λ e. e ≢ ReadError.OutOfMemory → IsFirstFault e text.items) }
+{
+    read_dump(alloc, &text)
+}
+
 /// Puts what is asked of a text that is a dump, or the line that tells the first fault of another. Tells whether the text
-/// is a dump.
+/// is a dump. The text is let go before its dump is told.
 pub(crate) fn tell<W: Sink>(
     alloc: Global,
     question: Question,
-    text: &[u8],
+    text: Vec<u8>,
     sink: &mut W,
 ) -> Result<bool, Stop>
     ensures told { MatchResult result
-        (λ is_dump. Told question is_dump text.now (W.gained sink.old) (W.gained sink.new))
-        (λ stop. StoppedTelling question stop text.now (W.gained sink.old) (W.fault_count sink.old) (W.gained sink.new) (W.fault_count sink.new)) }
+        (λ is_dump. Told question is_dump text.items (W.gained sink.old) (W.gained sink.new))
+        (λ stop. StoppedTelling question stop text.items (W.gained sink.old) (W.fault_count sink.old) (W.gained sink.new) (W.fault_count sink.new)) }
     ensures never_falls { W.fault_count sink.old ≤ W.fault_count sink.new }
 {
-    match read_dump(alloc, text) {
+    match dump_of(alloc, text) {
         Ok(dump) => {
             tell_dump(alloc, question, &dump, sink)?;
             Ok(true)

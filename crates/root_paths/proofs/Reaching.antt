@@ -1,12 +1,11 @@
 -- From level to level, until no node is at the last one.
-use Rattle.std.proofs.Common.{◌≡◌, ℕ, zero, suc, ◌+◌, ◌<◌, ◌≤◌, Bool, true, false, cond, ◌&&◌, inl, inr, nat_eq, List, [], ◌∷◌, ◌++◌, map, length, get_or, take, drop, drop_of_length-le, Option, None, Some, is_some, is_none, refl, ap, sym, ◌∙◌, arith, subst}
+use Rattle.std.proofs.Common.{◌≡◌, ℕ, zero, suc, ◌+◌, ◌<◌, ◌≤◌, Bool, true, false, cond, ◌&&◌, inl, inr, nat_eq, List, [], ◌∷◌, ◌++◌, map, length, get_or, Option, None, Some, is_some, is_none, refl, ap, sym, ◌∙◌, arith, subst}
 use Rattle.std.specs.Prelude.{count_by, filter, All}
 use Rattle.std.specs.List.{list_any, range_with_len}
 use Rattle.std.specs.Option.{option_or}
 use Rattle.std.proofs.lemmas.Bool.{and_from, and_parts, both_ways, cases_lt, eq-eqb, ne_eqb}
 use Rattle.std.proofs.lemmas.List.Folds.{list_any_at}
 use Rattle.std.proofs.lemmas.List.FromFn.{get_or-map-range_with_len, length-map-range_with_len, map-range_with_len_more}
-use Rattle.std.proofs.lemmas.List.{append-nil, get_or-map, take_all}
 use Rattle.std.proofs.lemmas.List.Sums.{count_by-le-length, sum_by-cons}
 use Rattle.dump_graph.specs.Graph.{Node, LeadsWithin}
 use Rattle.root_paths.specs.Paths.{numbers, is_root, has_edge, ends, ends_with, dist, is_at, before}
@@ -73,9 +72,6 @@ roots-more g i b is =
 
 pub reaches-more : (g : List Node) (i : ℕ) (b : Bool) → is_root g i ≡ b → map (root_reach g) (range_with_len 0 (i + 1)) ≡ map (root_reach g) (range_with_len 0 i) ++ cond b (Some (record { level = 0; before = i })) None ∷ []
 reaches-more g i b is = map-range_with_len_more (root_reach g) 0 i i (omega arith) ∙ ap (λ t. map (root_reach g) (range_with_len 0 i) ++ cond t (Some (record { level = 0; before = i })) None ∷ []) is
-
-pub is_root-at : (g : List Node) (i : ℕ) (x : Node) → i < length g → x ≡ get_or g i x → is_root g i ≡ x.is_root
-is_root-at g i x lt is = get_or-map (λ (y : Node). y.is_root) g i x false lt ∙ ap (λ (y : Node). y.is_root) (sym is)
 
 -- the roots
 root-some : (g : List Node) (xs : List ℕ) → length (filter (is_root g) xs) ≡ count_by (is_some {T = Reach}) (map (root_reach g) xs)
@@ -209,12 +205,6 @@ level-more g d level reached from new next is lead some so made =
 
 pub below-level : (g : List Node) (d level : ℕ) (reached : List (Option Reach)) (from : List ℕ) → level ≡ d + 1 → ReachedTo g d reached from → IsBelow level reached
 below-level g d level reached from is so n r at = let lt = reached-below g d reached from so n r at in omega arith
-
--- a list that is written back whole
-pub written-back : {X : Type 0} (new old : List X) (n : ℕ) → length new ≡ length old → n ≡ length old → take n (new ++ drop (length new) old) ≡ new
-written-back new old n same is =
-    let le : length old ≤ length new = omega arith in
-    ap (λ rest. take n (new ++ rest)) (drop_of_length-le old {i = length new} le) ∙ (ap (take n) (append-nil new) ∙ take_all n new (omega arith))
 
 -- no level more
 pub all-reached : (g : List Node) (d : ℕ) (reached : List (Option Reach)) (from : List ℕ) → LeadsWithin g → length from ≡ 0 → ReachedTo g d reached from → AreReached g reached

@@ -11,32 +11,32 @@ use crate::levels::reach_all;
 use crate::put::{put_no_node, put_no_path, put_path};
 use crate::way::way_to;
 use ah_outside::Sink;
-use dump_graph::{DumpGraph, GraphNode};
+use dump_graph::DumpGraph;
 use hprof_read::Dump;
 use std::alloc::Global;
 
 /// Tells of a node.
 fn tell_node<W: Sink>(
     alloc: Global,
-    nodes: &[GraphNode],
+    graph: &DumpGraph,
     number: usize,
     sink: &mut W,
 ) -> Result<(), PathError>
-    requires within { LeadsWithin nodes.now }
-    requires node { number < length nodes.now }
-    ensures told { let text = node_answer nodes.now number (dist nodes.now number) in MatchResult result
+    requires within { LeadsWithin graph.now }
+    requires node { number < length graph.now }
+    ensures told { let text = node_answer graph.now number (dist graph.now number) in MatchResult result
         (λ _. Gained (W.gained sink.old) text (W.gained sink.new))
         (λ e. Stopped e (W.gained sink.old) (W.fault_count sink.old) text (W.gained sink.new) (W.fault_count sink.new)) }
     ensures never_falls { W.fault_count sink.old ≤ W.fault_count sink.new }
 {
-    let reached = reach_all(alloc, nodes)?;
+    let reached = reach_all(alloc, graph)?;
     match reached[number] {
         None => {
-            put_no_path(sink, nodes, &reached)?;
+            put_no_path(sink, graph, &reached)?;
         }
         Some(reach) => {
             let way = way_to(alloc, &reached, reach.level, number)?;
-            put_path(sink, nodes, &reached, reach.level, &way)?;
+            put_path(sink, graph, &reached, reach.level, &way)?;
         }
     }
     Ok(())
@@ -62,6 +62,6 @@ pub fn find_path<W: Sink>(
             put_no_node(sink, id)?;
             Ok(())
         }
-        Some(number) => tell_node(alloc, graph.nodes(), number, sink),
+        Some(number) => tell_node(alloc, &graph, number, sink),
     }
 }

@@ -4,7 +4,7 @@ ghost use Rattle.dump_graph.specs.Graph.{LeadsWithin};
 ghost use Rattle.root_paths.specs.Paths.{numbers, ends};
 ghost use Rattle.root_paths.specs.Levels.{root_reach, led, Led, MadeLevel, IsBelow, AreReached};
 
-use dump_graph::GraphNode;
+use dump_graph::DumpGraph;
 use std::alloc::{AllocError, Global};
 
 /// How a node is reached: by so many edges, and, but for a root, from which node.
@@ -17,15 +17,15 @@ pub(crate) struct Reach {
 /// The reach of the roots, and their numbers.
 fn reach_roots(
     alloc: Global,
-    nodes: &[GraphNode],
+    graph: &DumpGraph,
 ) -> Result<(Vec<Option<Reach>>, Vec<usize>), AllocError>
-    ensures reached { IfOk result (λ r. r.0.items ≡ map (root_reach nodes.now) (numbers nodes.now)) }
-    ensures roots { IfOk result (λ r. r.1.items ≡ ends nodes.now 0) }
+    ensures reached { IfOk result (λ r. r.0.items ≡ map (root_reach graph.now) (numbers graph.now)) }
+    ensures roots { IfOk result (λ r. r.1.items ≡ ends graph.now 0) }
 {
-    let mut reached = Vec::with_capacity(alloc, nodes.len())?;
+    let mut reached = Vec::with_capacity(alloc, graph.len())?;
     let mut roots = Vec::new(alloc);
-    for i in 0..nodes.len() {
-        if nodes[i].is_root() {
+    for i in 0..graph.len() {
+        if graph.is_root(i) {
             reached.push(Some(Reach {
                 level: 0,
                 before: i,
@@ -60,7 +60,7 @@ fn reach_one(reach: &mut Option<Reach>, level: usize, before: usize) -> bool
 
 /// Reaches the targets of a node. Puts those that were not reached before behind the others of the level.
 fn reach_targets(
-    targets: &[usize],
+    targets: &[u32],
     level: usize,
     before: usize,
     reached: &mut [Option<Reach>],
@@ -71,8 +71,9 @@ fn reach_targets(
     ensures led { OnOk result (Led level before targets.now reached.old next.old.items reached.new next.new.items) }
 {
     for target in targets {
-        if reach_one(&mut reached[*target], level, before) {
-            next.push(*target)?;
+        let number = *target as usize;
+        if reach_one(&mut reached[number], level, before) {
+            next.push(number)?;
         }
     }
     Ok(())
@@ -81,38 +82,35 @@ fn reach_targets(
 /// Reaches the nodes of a level from those of the level before it, and gives them.
 fn reach_level(
     alloc: Global,
-    nodes: &[GraphNode],
+    graph: &DumpGraph,
     level: usize,
     from: &[usize],
     reached: &mut [Option<Reach>],
 ) -> Result<Vec<usize>, AllocError>
-    requires within { LeadsWithin nodes.now }
-    requires nodes { All (λ n. n < length nodes.now) from.now }
-    requires as_many { length reached.old ≡ length nodes.now }
+    requires within { LeadsWithin graph.now }
+    requires nodes { All (λ n. n < length graph.now) from.now }
+    requires as_many { length reached.old ≡ length graph.now }
     requires below { IsBelow level reached.old }
     ensures length { length reached.new ≡ length reached.old }
-    ensures made { IfOk result (λ next. MadeLevel nodes.now level from.now reached.old reached.new next.items) }
+    ensures made { IfOk result (λ next. MadeLevel graph.now level from.now reached.old reached.new next.items) }
 {
     let mut next = Vec::new(alloc);
     for number in from {
-        reach_targets(nodes[*number].targets(), level, *number, reached, &mut next)?;
+        reach_targets(graph.targets(*number), level, *number, reached, &mut next)?;
     }
     Ok(next)
 }
 
 /// How each node is reached, where it is.
-pub(crate) fn reach_all(
-    alloc: Global,
-    nodes: &[GraphNode],
-) -> Result<Vec<Option<Reach>>, AllocError>
-    requires { LeadsWithin nodes.now }
-    ensures { IfOk result (λ reached. AreReached nodes.now reached.items) }
+pub(crate) fn reach_all(alloc: Global, graph: &DumpGraph) -> Result<Vec<Option<Reach>>, AllocError>
+    requires { LeadsWithin graph.now }
+    ensures { IfOk result (λ reached. AreReached graph.now reached.items) }
 {
-    let (mut reached, mut from) = reach_roots(alloc, nodes)?;
+    let (mut reached, mut from) = reach_roots(alloc, graph)?;
     let mut level = 0;
     while !from.is_empty() {
         level += 1;
-        from = reach_level(alloc, nodes, level, &from, &mut reached)?;
+        from = reach_level(alloc, graph, level, &from, &mut reached)?;
     }
     Ok(reached)
 }

@@ -8,7 +8,7 @@ ghost use Rattle.root_paths.specs.Levels.{AreNodes, AreReached, level_of};
 
 use crate::levels::Reach;
 use ah_outside::{Failed, Sink};
-use dump_graph::GraphNode;
+use dump_graph::DumpGraph;
 use hprof_list::{id_of, put_pieces};
 use itoa::Buffer;
 
@@ -28,12 +28,12 @@ fn put_length<W: Sink>(sink: &mut W, length: usize) -> Result<(), Failed>
 }
 
 /// The lines of a path's nodes.
-fn put_way<W: Sink>(sink: &mut W, nodes: &[GraphNode], way: &[usize]) -> Result<(), Failed>
-    requires { AreNodes nodes.now way.now }
-    ensures { Puts W.gained W.fault_count sink.old (flat_map (node_line nodes.now) way.now) sink.new result }
+fn put_way<W: Sink>(sink: &mut W, graph: &DumpGraph, way: &[usize]) -> Result<(), Failed>
+    requires { AreNodes graph.now way.now }
+    ensures { Puts W.gained W.fault_count sink.old (flat_map (node_line graph.now) way.now) sink.new result }
 {
     for number in way {
-        put_pieces(sink, &[&id_of(nodes[*number].id()), b"\n"])?;
+        put_pieces(sink, &[&id_of(graph.id(*number)), b"\n"])?;
     }
     Ok(())
 }
@@ -74,15 +74,15 @@ fn put_reach<W: Sink>(
 /// The lines of the nodes that are reached within the limit.
 fn put_levels<W: Sink>(
     sink: &mut W,
-    nodes: &[GraphNode],
+    graph: &DumpGraph,
     reached: &[Option<Reach>],
     limit: Option<usize>,
 ) -> Result<(), Failed>
-    requires { AreReached nodes.now reached.now }
-    ensures { Puts W.gained W.fault_count sink.old (level_lines nodes.now limit) sink.new result }
+    requires { AreReached graph.now reached.now }
+    ensures { Puts W.gained W.fault_count sink.old (level_lines graph.now limit) sink.new result }
 {
-    for i in 0..nodes.len() {
-        put_reach(sink, limit, nodes[i].id(), reached[i])?;
+    for i in 0..graph.len() {
+        put_reach(sink, limit, graph.id(i), reached[i])?;
     }
     Ok(())
 }
@@ -90,29 +90,29 @@ fn put_levels<W: Sink>(
 /// The answer for a node with a path.
 pub(crate) fn put_path<W: Sink>(
     sink: &mut W,
-    nodes: &[GraphNode],
+    graph: &DumpGraph,
     reached: &[Option<Reach>],
     length: usize,
     way: &[usize],
 ) -> Result<(), Failed>
-    requires reached { AreReached nodes.now reached.now }
-    requires nodes { AreNodes nodes.now way.now }
-    ensures { Puts W.gained W.fault_count sink.old (concat (codes "path " ∷ decimal length ∷ codes "\n" ∷ []) ++ (flat_map (node_line nodes.now) way.now ++ level_lines nodes.now (Some length))) sink.new result }
+    requires reached { AreReached graph.now reached.now }
+    requires nodes { AreNodes graph.now way.now }
+    ensures { Puts W.gained W.fault_count sink.old (concat (codes "path " ∷ decimal length ∷ codes "\n" ∷ []) ++ (flat_map (node_line graph.now) way.now ++ level_lines graph.now (Some length))) sink.new result }
 {
     put_length(sink, length)?;
-    put_way(sink, nodes, way)?;
-    put_levels(sink, nodes, reached, Some(length))
+    put_way(sink, graph, way)?;
+    put_levels(sink, graph, reached, Some(length))
 }
 
 /// The answer for a node without a path.
 pub(crate) fn put_no_path<W: Sink>(
     sink: &mut W,
-    nodes: &[GraphNode],
+    graph: &DumpGraph,
     reached: &[Option<Reach>],
 ) -> Result<(), Failed>
-    requires { AreReached nodes.now reached.now }
-    ensures { Puts W.gained W.fault_count sink.old (codes "no path\n" ++ level_lines nodes.now None) sink.new result }
+    requires { AreReached graph.now reached.now }
+    ensures { Puts W.gained W.fault_count sink.old (codes "no path\n" ++ level_lines graph.now None) sink.new result }
 {
     put_pieces(sink, &[b"no path\n"])?;
-    put_levels(sink, nodes, reached, None)
+    put_levels(sink, graph, reached, None)
 }

@@ -1,4 +1,4 @@
-use Rattle.std.proofs.Common.{◌≡◌, ℕ, List, ap, sym, subst, ◌∙◌, ◌++◌, map, nat_eq}
+use Rattle.std.proofs.Common.{ℕ, List, ap, sym, subst, ◌∙◌, nat_eq}
 use Rattle.std.specs.Prelude.{position}
 use Rattle.dump_graph.specs.Classes.{Class}
 use Rattle.dump_graph.specs.Firsts.{IsApart}

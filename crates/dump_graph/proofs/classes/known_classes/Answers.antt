@@ -1,4 +1,4 @@
-use Rattle.std.proofs.Common.{◌≡◌, ℕ, ◌<◌, ◌+◌, Bor, List, Some, None, ap, sym, subst, ◌∙◌, map, take, get_or, length, arith}
+use Rattle.std.proofs.Common.{◌≡◌, ℕ, ◌<◌, ◌+◌, Bor, List, Some, ap, sym, subst, ◌∙◌, map, take, get_or, length, arith}
 use Rattle.hprof_records.specs.declared.sub_record.SubRecord.{SubRecord}
 use Rattle.dump_graph.specs.Classes.{Class, class_of, classes}
 use Rattle.dump_graph.specs.Firsts.{IsApart, firsts}

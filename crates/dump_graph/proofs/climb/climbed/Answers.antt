@@ -1,4 +1,4 @@
-use Rattle.std.proofs.Common.{arith, sym, ◌∙◌, ap, ◌/◌, length}
+use Rattle.std.proofs.Common.{arith, ◌/◌, length}
 use Rattle.dump_graph.proofs.ClimbTables.{climbs-begin, climbs-end, climbs-even, climbs-odd, climbs-within}
 use Rattle.dump_graph.proofs.climb.climbed.Goals as goal
 use Rattle.dump_graph.proofs.climb.climbed.Goals.{then-left-eq1+in_ok-climbs-2, else-left-eq1}

@@ -1,4 +1,4 @@
-use Rattle.std.proofs.Common.{◌≡◌, ℕ, ◌<◌, ◌+◌, false, Bor, List, ap, sym, subst, ◌∙◌, map, take, get_or, length, arith}
+use Rattle.std.proofs.Common.{◌≡◌, ◌<◌, false, Bor, List, ◌∙◌, map, get_or, length, arith}
 use Rattle.hprof_records.specs.declared.sub_record.SubRecord.{SubRecord}
 use Rattle.dump_graph.proofs.Marks.{marks-more, written-back}
 use Rattle.dump_graph.proofs.Nodes.{shown, shown-within}

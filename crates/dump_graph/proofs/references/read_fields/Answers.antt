@@ -1,6 +1,5 @@
 use Rattle.std.proofs.Common.{◌≡◌, ◌-◌, ◌++◌, length, take, drop, get_or, arith, ap, sym, ◌∙◌, append_assoc, length-drop}
 use Rattle.std.specs.Prelude.{sum_by, option_to_list}
-use Rattle.std.proofs.lemmas.Grind.{common_steps}
 use Rattle.hprof_records.specs.Types.{value_bytes}
 use Rattle.dump_graph.specs.References.{reference, references_in}
 use Rattle.dump_graph.proofs.Values.{cut-all, drop-plus, references-more, sizes-more, sizes-within}

@@ -1,5 +1,3 @@
-use Rattle.std.proofs.Common.{List, ℕ, sym, subst}
-use Rattle.read_job.specs.Ends.{TookAll, streams_of}
 use Rattle.read_job.proofs.Endings.{reading_ends}
 use Rattle.read_job.proofs.reading.take_and_tell.Goals as goal
 
@@ -12,7 +10,5 @@ returns-clause-ended g c =
     let sink = c.args.sink.now in
     let from = c.args.source.now in
     let to = c.take_input.new.source in
-    reading_ends c.args.question c.deref.result.now (left from) (reads from) (told sink) (puts sink) (left to) (reads to) (told c.tell.new.sink) (puts c.tell.new.sink)
-    (subst (λ (text : List ℕ). TookAll text (streams_of (left from) (reads from) (told sink) (puts sink)) (streams_of (left to) (reads to) (told sink) (puts sink)))
-    (sym c.deref.ensures.value) (c.in_ok-text.ensures.done (told sink) (puts sink)))
-    c.tell.result c.tell.ensures.told
+    reading_ends c.args.question c.in_ok-text.text.items (left from) (reads from) (told sink) (puts sink) (left to) (reads to) (told c.tell.new.sink) (puts c.tell.new.sink)
+    (c.in_ok-text.ensures.done (told sink) (puts sink)) c.tell.result c.tell.ensures.told

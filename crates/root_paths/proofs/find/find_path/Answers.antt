@@ -17,11 +17,10 @@ pub returns-clause-told : goal.returns-clause-told
 returns-clause-told g c =
     let nodes : List Node = graph (parts c.args.dump.now.top) in
     let is : Some c.in-Some.number ≡ number_of nodes c.args.id = c.in-Some.ensures ∙ ap (λ (x : List Node). number_of x c.args.id) c.in_ok-graph.ensures.graph in
-    let same : c.nodes.result.now ≡ nodes = c.nodes.ensures ∙ c.in_ok-graph.ensures.graph in
     let told = subst (λ (x : List Node). MatchResult c.tell_node.result
     (λ _. Gained (g.W.Sink.gained c.args.sink.now) (node_answer x c.in-Some.number (dist x c.in-Some.number)) (g.W.Sink.gained c.tell_node.new.sink))
     (λ e. Stopped e (g.W.Sink.gained c.args.sink.now) (g.W.Sink.fault_count c.args.sink.now) (node_answer x c.in-Some.number (dist x c.in-Some.number)) (g.W.Sink.gained c.tell_node.new.sink) (g.W.Sink.fault_count c.tell_node.new.sink)))
-    same c.tell_node.ensures.told in
+    c.in_ok-graph.ensures.graph c.tell_node.ensures.told in
     subst (λ (t : List ℕ). MatchResult c.tell_node.result
     (λ _. Gained (g.W.Sink.gained c.args.sink.now) t (g.W.Sink.gained c.tell_node.new.sink))
     (λ e. Stopped e (g.W.Sink.gained c.args.sink.now) (g.W.Sink.fault_count c.args.sink.now) t (g.W.Sink.gained c.tell_node.new.sink) (g.W.Sink.fault_count c.tell_node.new.sink)))

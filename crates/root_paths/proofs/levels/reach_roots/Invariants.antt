@@ -7,6 +7,6 @@ use Rattle.root_paths.proofs.levels.reach_roots.Given as goal
 
 abbrev pub invariant-loop-i : goal.invariant-loop-i
 invariant-loop-i l = record {
-  reached : l.reached.items ≡ map (root_reach l.nodes) (range_with_len 0 l.i);
-  roots : l.roots.items ≡ filter (is_root l.nodes) (range_with_len 0 l.i);
+  reached : l.reached.items ≡ map (root_reach l.graph) (range_with_len 0 l.i);
+  roots : l.roots.items ≡ filter (is_root l.graph) (range_with_len 0 l.i);
 }

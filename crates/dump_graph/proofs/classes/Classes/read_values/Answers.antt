@@ -1,9 +1,9 @@
-use Rattle.std.proofs.Common.{◌≡◌, ℕ, ◌<◌, ◌≤◌, ◌-◌, ◌+◌, List, length, arith, ap, sym, ◌∙◌}
+use Rattle.std.proofs.Common.{◌<◌, ◌-◌, ◌+◌, length, arith, ap, ◌∙◌}
 use Rattle.dump_graph.specs.Classes.{Class}
-use Rattle.dump_graph.specs.Climbing.{climb, gathered, own_codes}
+use Rattle.dump_graph.specs.Climbing.{gathered}
 use Rattle.dump_graph.specs.Tables.{Known}
 use Rattle.dump_graph.specs.declared.climb.Climb.{Climb}
-use Rattle.dump_graph.proofs.ReadAll.{climb-at, codes-at, fits-all, left-none, left-within, reading-begins, reads-all, reads-on, stops-short}
+use Rattle.dump_graph.proofs.ReadAll.{climb-at, codes-at, left-within, reading-begins, reads-on, stops-short}
 use Rattle.dump_graph.proofs.classes.Classes.read_values.Goals as goal
 
 pub loop-init : goal.loop-init

@@ -1,4 +1,4 @@
-use Rattle.std.proofs.Common.{◌≡◌, ℕ, ◌<◌, Bor, List, ap, sym, subst, ◌∙◌, map, length}
+use Rattle.std.proofs.Common.{◌≡◌, ◌<◌, Bor, List, ap, sym, subst, ◌∙◌, map}
 use Rattle.std.proofs.lemmas.List.{length-map}
 use Rattle.hprof_records.specs.declared.sub_record.SubRecord.{SubRecord}
 use Rattle.dump_graph.specs.Classes.{classes}
@@ -17,13 +17,13 @@ returns-clause-graph c =
     let for_numbers : map now c.deref-2.result.now ≡ ps = ap (map now) c.deref-2.ensures.value ∙ all in
     let for_roots : map now c.deref-3.result.now ≡ ps = ap (map now) c.deref-3.ensures.value ∙ all in
     let count = c.len.ensures ∙ firsts.ok.0 in
-    graph-of ps c.in_ok-classes.classes c.in_ok-numbers.numbers c.in_ok-roots.roots.items (map now firsts.items) c.in_ok-nodes.nodes.items
+    graph-of ps c.in_ok-classes.classes c.in_ok-numbers.numbers c.in_ok-roots.roots.items (map now firsts.items) c.in_ok-graph.graph
     (c.in_ok-classes.ensures ∙ ap (λ l. known_of (classes l)) for_classes)
     (c.in_ok-numbers.ensures.numbers ∙ ap node_ids for_numbers)
     (c.in_ok-numbers.ensures.firsts ∙ ap nodes for_numbers)
     (c.in_ok-roots.ensures.length ∙ (count ∙ sym (length-map firsts.items now)))
     (λ k within. rw for_roots at (c.in_ok-roots.ensures.roots k c.in_ok-numbers.ensures.apart (subst (λ n. k < n) (length-map firsts.items now ∙ sym count) within)))
-    (rw (c.deref-4.ensures.value, c.deref-5.ensures.value) at c.in_ok-nodes.ensures)
+    (rw (c.deref-4.ensures.value, c.deref-5.ensures.value) at c.in_ok-graph.ensures)
 
 pub returns-clause-within : goal.returns-clause-within
 returns-clause-within c = subst (λ (g : List Node). LeadsWithin g) (sym (returns-clause-graph c)) (graph-within (parts c.args.dump.now.top))

@@ -2,7 +2,7 @@ use Rattle.std.proofs.Common.{arith}
 use Rattle.std.proofs.lemmas.Grind.{common_steps}
 use Rattle.std.proofs.lemmas.List.Elements.{filter_map-append}
 use Rattle.dump_graph.proofs.Values.{to-list}
-use Rattle.dump_graph.proofs.references.static_references.Goals as goal
+use Rattle.dump_graph.proofs.references.add_static_references.Goals as goal
 
 pub loop-one-preserved : goal.loop-one-preserved
 loop-one-preserved c = grind (arith, common_steps, filter_map-append, to-list)
