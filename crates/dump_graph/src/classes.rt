@@ -96,6 +96,7 @@ fn known_classes(
             dumps += 1;
         }
     }
+    numbers.settle(alloc)?;
     Ok((numbers, known, dumps))
 }
 

@@ -72,6 +72,7 @@ fn number_nodes<'a>(
             }
         }
     }
+    numbers.settle(alloc)?;
     Ok((numbers, firsts))
 }
 

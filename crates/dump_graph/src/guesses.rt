@@ -1,24 +1,21 @@
-//! Guesses of the numbers of identifiers. Any guess is tried against the identifiers, so none needs to be right.
+//! Guesses of the numbers of identifiers. Each guess is tried against the identifiers, so none needs to be right.
+use crate::numbers::narrow;
 use std::alloc::{AllocError, Global};
 
-/// How many guesses a page has: one for each 8 of 65,536 identifiers.
-const PAGE: usize = 8192;
+/// How many pages there can be: one for each upper half of an identifier.
+const PAGES: usize = 65_536;
+
+/// How many guesses a page has: one for each 16 of the identifiers with its upper half.
+const PAGE: usize = 4096;
 
 /// Where no page stands.
 const NOWHERE: u32 = u32::MAX;
 
-/// The guesses for the identifiers with the same upper half: where they stand, and the number from which they count.
-#[derive(Clone, Copy, Debug, PartialEq, Eq)]
-struct Page {
-    at: u32,
-    base: u32,
-}
-
-/// Guesses of the numbers of identifiers, by the identifiers' upper halves and what stands below them.
+/// Guesses of the numbers of identifiers: where the page of each upper half begins, and the guesses of all pages.
 #[derive(Drop)]
 pub(crate) struct Guesses {
-    pages: Vec<Page>,
-    slots: Vec<u16>,
+    pages: Vec<u32>,
+    guesses: Vec<u32>,
 }
 
 impl Guesses {
@@ -26,65 +23,50 @@ impl Guesses {
     pub(crate) fn new(alloc: Global) -> Guesses {
         Guesses {
             pages: Vec::new(alloc),
-            slots: Vec::new(alloc),
+            guesses: Vec::new(alloc),
         }
     }
 
     /// A guess of an identifier's number.
     #[inline(always)]
     pub(crate) fn guess(&self, id: u32) -> Option<usize> {
-        let page = self.pages.get((id >> 16) as usize)?;
-        let slot = self
-            .slots
-            .get(page.at as usize + (id % 65_536 / 8) as usize)?;
-        Some(page.base as usize + *slot as usize)
+        let page = *self.pages.get((id >> 16) as usize)?;
+        let number = *self
+            .guesses
+            .get(page as usize + (id % 65_536 / 16) as usize)?;
+        Some(number as usize)
     }
 
-    /// The page of an identifier, a new one where it has none. `None` where there are too few identifiers for one more.
-    fn page(&mut self, id: u32, number: u32) -> Result<Option<Page>, AllocError> {
-        let high = (id >> 16) as usize;
-        if self.pages.is_empty() {
-            let none = Page {
-                at: NOWHERE,
-                base: 0,
-            };
-            self.pages.resize(65_536, none)?;
-        }
-        let Some(page) = self.pages.get_mut(high) else {
-            return Ok(None);
+    /// Where the page of an identifier begins, a new one where it has none, unless there were four guesses for each of so
+    /// many identifiers.
+    fn page(&mut self, id: u32, count: usize) -> Result<u32, AllocError> {
+        let Some(page) = self.pages.get_mut((id >> 16) as usize) else {
+            return Ok(NOWHERE);
         };
-        if page.at != NOWHERE {
-            return Ok(Some(*page));
+        let length = self.guesses.len();
+        if *page == NOWHERE && length / 4 <= count {
+            self.guesses.resize(length + PAGE, 0)?;
+            *page = narrow(length)?;
         }
-        let length = self.slots.len();
-        if length / 8 > number as usize + PAGE {
-            return Ok(None);
-        }
-        let Ok(at) = u32::try_from(length) else {
-            return Ok(None);
-        };
-        self.slots.resize(length + PAGE, 0)?;
-        *page = Page { at, base: number };
-        Ok(Some(*page))
+        Ok(*page)
     }
 
-    /// Notes an identifier's number.
-    pub(crate) fn note(&mut self, id: u32, number: u32) -> Result<(), AllocError> {
-        let Some(page) = self.page(id, number)? else {
-            return Ok(());
+    /// Guesses for identifiers: mostly their places. They take at most 16 bytes for each, and those of some pages.
+    pub(crate) fn of(alloc: Global, ids: &[u32]) -> Result<Guesses, AllocError> {
+        let mut made = Guesses {
+            pages: vec![in alloc; NOWHERE; PAGES]?,
+            guesses: Vec::new(alloc),
         };
-        let Some(more) = number.checked_sub(page.base) else {
-            return Ok(());
-        };
-        let Ok(more) = u16::try_from(more) else {
-            return Ok(());
-        };
-        if let Some(slot) = self
-            .slots
-            .get_mut(page.at as usize + (id % 65_536 / 8) as usize)
-        {
-            *slot = more;
+        for i in 0..ids.len() {
+            let id = ids[i];
+            let page = made.page(id, ids.len())?;
+            if let Some(guess) = made
+                .guesses
+                .get_mut(page as usize + (id % 65_536 / 16) as usize)
+            {
+                *guess = narrow(i)?;
+            }
         }
-        Ok(())
+        Ok(made)
     }
 }

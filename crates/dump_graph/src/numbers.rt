@@ -94,7 +94,6 @@ impl Numbers {
             return Ok(false);
         }
         let number = self.ids.len();
-        self.guesses.note(id, narrow(number)?)?;
         self.ids.push(id)?;
         match self.others.insert(id, number) {
             Ok(_) => Ok(true),
@@ -105,6 +104,14 @@ impl Numbers {
         }
     }
 
+    /// Makes the look-ups fast that follow.
+    pub(crate) fn settle(&mut self, alloc: Global) -> Result<(), AllocError>
+        ensures { self.new ≡ self.old }
+    {
+        self.guesses = Guesses::of(alloc, &self.ids)?;
+        Ok(())
+    }
+
     /// Adds an identifier that is greater than all others.
     fn add_rising(&mut self, id: u32) -> Result<(), AllocError>
         requires { All (λ other. other < id) self.old }
@@ -112,7 +119,6 @@ impl Numbers {
         ensures unchanged { OnErr result (self.new ≡ self.old) }
     {
         let number = narrow(self.ids.len())?;
-        self.guesses.note(id, number)?;
         self.places.truncate(self.rising.len());
         self.places.push(number)?;
         self.ids.push(id)?;
