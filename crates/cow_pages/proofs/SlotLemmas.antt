@@ -112,6 +112,8 @@ takes_later old mid new t p same takes = record {
   copied = record {
     spare = omega (arith, takes.copied.spare, same.spare);
     had_spare = λ some. let k = takes.copied.had_spare some in (same.frames ∙ k.0, same.leaf_count ∙ k.1);
+    frames_stay = omega (arith, takes.copied.frames_stay, same.frames);
+    leaves_stay = omega (arith, takes.copied.leaves_stay, same.leaf_count);
     frames = omega (arith, takes.copied.frames, same.frames);
     leaf_count = omega (arith, takes.copied.leaf_count, same.leaf_count);
   };
@@ -128,6 +130,8 @@ takes_later old mid new t p same takes = record {
       let k = takes.one shared in
       record {
         spare = omega (arith, k.spare, same.spare);
+        frames_stay = omega (arith, k.frames_stay, same.frames);
+        leaves_stay = omega (arith, k.leaves_stay, same.leaf_count);
         frames = omega (arith, k.frames, same.frames);
         leaf_count = omega (arith, k.leaf_count, same.leaf_count);
         used = same.used ∙ k.used;
@@ -175,7 +179,7 @@ owns_earlier old mid new t i same o =
 -- nothing was taken
 pub takes_none : (m : Memory) (t p : ℕ) → HasOneSharer m t p → TakesOnCopy m m t p
 takes_none m t p one = record {
-  copied = record { spare = omega arith; had_spare = λ some. (refl, refl); frames = omega arith; leaf_count = omega arith };
+  copied = record { spare = omega arith; had_spare = λ some. (refl, refl); frames_stay = omega arith; leaves_stay = omega arith; frames = omega arith; leaf_count = omega arith };
   in_place = λ also. record { frames = refl; leaf_count = refl; spare = refl; used = refl; used_leaves = refl };
   one = λ shared. absurd (not_shared m t p one shared);
 }
@@ -193,6 +197,8 @@ pub took_frame : (s new : Store) → TookOne s new → TakesFrame (shown s) (sho
 took_frame s new took = record {
   spare = omega (arith, took.frames, took.leaves);
   had_spare = λ some. (omega (arith, took.len, some), omega (arith, took.leaf_len, some));
+  frames_stay = omega (arith, took.len);
+  leaves_stay = omega (arith, took.leaf_len);
   frames = omega (arith, took.len);
   leaf_count = omega (arith, took.leaf_len);
 }
@@ -200,6 +206,8 @@ took_frame s new took = record {
 pub took_one : (s new : Store) → IsStore s → IsStore new → TookOne s new → TakesOne (shown s) (shown new)
 took_one s new store also took = record {
   spare = omega (arith, took.frames, took.leaves);
+  frames_stay = omega (arith, took.len);
+  leaves_stay = omega (arith, took.leaf_len);
   frames = omega (arith, took.len);
   leaf_count = omega (arith, took.leaf_len);
   used = omega (arith, counted s store.kept store.room, counted new also.kept also.room, took.len, took.frames);

@@ -1,11 +1,11 @@
 -- How many frames and leaves are used.
 use Rattle.std.proofs.Common.{◌≡◌, ℕ, zero, suc, ◌+◌, ◌<◌, ◌≤◌, Bool, false, cond, List, [], ◌∷◌, length, get_or, Option, Some, None, refl, sym, ap, ◌∙◌, inl, inr, arith, eqb, ◌||◌, Contains}
-use Rattle.std.specs.Prelude.{nat_eq}
+use Rattle.std.specs.Prelude.{nat_eq, ◌↔◌}
 use Rattle.std.specs.List.{list_any, IsDistinct, AllByRecursion}
 use Rattle.std.proofs.lemmas.Bool.{cases_eq, cases_lt, eq-eqb, eqb-false, ne_eqb, cond-true, cond-false}
 use Rattle.std.proofs.lemmas.Option.{none-some, same_Some}
 use Rattle.cow_pages.specs.Memory.{Memory, frames_of, row_leaves, leaves_of, used_frames, used_leaves, distinct_count, IsSound}
-use Rattle.cow_pages.specs.Laws.{AreUsed, AreUsedLeaves}
+use Rattle.cow_pages.specs.Laws.{AreUsed, AreUsedLeaves, HasEntry}
 use Rattle.cow_pages.proofs.HolderLemmas.{holders, count-step, holders-yes, holders-no, holders-append, absent, absent-step, distinct_and_absent, all_below, entry_with, holders-entries}
 
 -- lists with the same members have as many different ones
@@ -88,6 +88,24 @@ used-length m fs sound used = members-length (frames_of m.tables) fs
     (λ f some. let e = entry_with m.tables f sound.rising some in used.all e.table e.page.number f e.page.is)
     (λ f among. let e = used.used f among in holders-entries m.tables e.0 e.1 f e.2)
     used.differ
+
+-- memories whose entries have the same frames use as many
+pub used-same : (old new : Memory) → IsSound old → IsSound new → ((f : ℕ) → HasEntry old f ↔ HasEntry new f) → used_frames new ≡ used_frames old
+used-same old new sound also same =
+    let xs = frames_of old.tables in
+    let ys = frames_of new.tables in
+    let n = bound_of xs + bound_of ys in
+    let there : (f : ℕ) → 1 ≤ holders xs f → 1 ≤ holders ys f = λ f some.
+    let e = entry_with old.tables f sound.rising some in
+    let k = (same f).0 (e.table, e.page.number, e.page.is) in
+    holders-entries new.tables k.0 k.1 f k.2 in
+    let back : (f : ℕ) → 1 ≤ holders ys f → 1 ≤ holders xs f = λ f some.
+    let e = entry_with new.tables f also.rising some in
+    let k = (same f).1 (e.table, e.page.number, e.page.is) in
+    holders-entries old.tables k.0 k.1 f k.2 in
+    let a = distinct_and_absent xs n (all_below n xs (λ f some. omega (arith, below_bound xs f some))) in
+    let b = distinct_and_absent ys n (all_below n ys (λ f some. omega (arith, below_bound ys f some))) in
+    omega (arith, a, b, absent-same xs ys 0 n there back)
 
 -- LEAVES
 

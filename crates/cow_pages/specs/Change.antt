@@ -25,16 +25,22 @@ pub record KeepsRoom (old new : Memory) : Type 0 where
   pub used : used_frames new ≡ used_frames old
   pub used_leaves : used_leaves new ≡ used_leaves old
 
--- at most one less is spare; where something was, no frame and no leaf was made, and else at most one of each
+-- at most one less is spare; no frame and no leaf was lost; where something was spare none was made, and else at most
+-- one of each
 pub record TakesFrame (old new : Memory) : Type 0 where
   pub spare : old.spare ≤ new.spare + 1
   pub had_spare : old.spare ≢ 0 → (new.frames ≡ old.frames) × (new.leaf_count ≡ old.leaf_count)
+  pub frames_stay : old.frames ≤ new.frames
+  pub leaves_stay : old.leaf_count ≤ new.leaf_count
   pub frames : new.frames ≤ old.frames + 1
   pub leaf_count : new.leaf_count ≤ old.leaf_count + 1
 
--- exactly one frame more is used, which was made where nothing was spare, if it was made at all
+-- exactly one frame more is used, which was made where nothing was spare, if it was made at all; no frame and no leaf
+-- was lost
 pub record TakesOne (old new : Memory) : Type 0 where
   pub spare : old.spare ≤ new.spare + 1
+  pub frames_stay : old.frames ≤ new.frames
+  pub leaves_stay : old.leaf_count ≤ new.leaf_count
   pub frames : new.frames ≤ old.frames + (1 - old.spare)
   pub leaf_count : new.leaf_count ≤ old.leaf_count + (1 - old.spare)
   pub used : used_frames new ≡ used_frames old + 1

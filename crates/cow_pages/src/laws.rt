@@ -1,11 +1,11 @@
 //! Laws about what contracts see: they hold of every memory that is sound.
-ghost use Rattle.std.specs.Prelude.{◌≡◌, ◌≢◌, ◌⊎◌, ℕ, List, length, Some, None, IsTrue};
+ghost use Rattle.std.specs.Prelude.{◌≡◌, ◌≢◌, ◌⊎◌, ◌↔◌, ℕ, List, length, Some, None, IsTrue};
 ghost use Rattle.page_tables.specs.declared.address.Window.{Window};
 ghost use Rattle.cow_pages.specs.Memory.{Memory, IsSound, HasOneSharer, IsFree, page_at, frame_at, is_live, is_mapped, used_frames, used_leaves};
 ghost use Rattle.cow_pages.specs.Change.{ChangesPage, ChangesTable, MapsZeros, WritesPage, settled};
 ghost use Rattle.cow_pages.specs.Only.{OnlyTable};
 ghost use Rattle.cow_pages.specs.View.{View, view_of};
-ghost use Rattle.cow_pages.specs.Laws.{IsPaged, HasNumbers, CountsPages, AreUsed, AreUsedLeaves, ShareLeaves};
+ghost use Rattle.cow_pages.specs.Laws.{IsPaged, HasNumbers, CountsPages, AreUsed, AreUsedLeaves, HasEntry, ShareLeaves};
 
 /// Each byte of a table is below 256, and 0 where no page is. The addresses of a page are mapped together.
 pub fn views_are_paged()
@@ -32,6 +32,11 @@ pub fn one_sharer_stays()
 /// As many frames are used as there are different frames with an entry.
 pub fn used_frames_have_entries()
     ensures { (m : Memory) (fs : List ℕ) → IsSound m → AreUsed m fs → used_frames m ≡ length fs }
+{}
+
+/// Where the same frames have entries as before, as many are used.
+pub fn same_entries_use_as_much()
+    ensures { (old new : Memory) → IsSound old → IsSound new → ((f : ℕ) → HasEntry old f ↔ HasEntry new f) → used_frames new ≡ used_frames old }
 {}
 
 /// As many leaves are used as there are different ones that a table has.

@@ -17,6 +17,7 @@ pub use frames::Frames;
 pub use laws::{
     a_page_is_only_a_table, alone_stays_alone, calls_change_only_a_table, counts_are_of_pages,
     leaves_are_shared, nothing_is_only_a_table, numbers_are_bytes, one_sharer_stays,
-    only_a_table_twice, used_frames_have_entries, used_leaves_have_tables, views_are_paged,
+    only_a_table_twice, same_entries_use_as_much, used_frames_have_entries,
+    used_leaves_have_tables, views_are_paged,
 };
 pub use page_tables::{Addr, FrameNo, LeafNo, PageNo, TableNo, Window};

@@ -1,21 +1,14 @@
 -- The pages of the image window after further ones were mapped.
-use Rattle.std.proofs.Common.{◌≡◌, ◌⊎◌, ◌∙◌, ℕ, ◌+◌, ◌<◌, ◌≤◌, sym, ap, inl, inr, arith, ltb}
-use Rattle.std.specs.Prelude.{is_some}
-use Rattle.std.proofs.lemmas.Bool.{cases_lt, le-ltb, lt-ltb}
-use Rattle.cow_pages.specs.Memory.{Memory, is_mapped}
-use Rattle.page_runs.specs.Runs.{MapsRun}
-use Rattle.image_space.specs.Space.{HasPagesUpTo, end_page, further_pages}
+use Rattle.std.proofs.Common.{◌≡◌, ℕ, ◌+◌, ◌≤◌, arith, subst}
+use Rattle.page_tables.specs.declared.address.Window.TheVariants.{Image}
+use Rattle.page_tables.specs.Address.{first_page}
+use Rattle.cow_pages.specs.Memory.{Memory}
+use Rattle.page_runs.specs.Runs.{HasRun, MapsRun}
+use Rattle.page_runs.proofs.LawLemmas.{run-grown}
+use Rattle.image_space.specs.Space.{HasPagesUpTo, end_page, further_pages, pages_up_to}
 
 pub pages-after : (old new : Memory) (t fill next : ℕ) → HasPagesUpTo old t fill → fill ≤ next → MapsRun old new t (end_page fill) (further_pages fill next) → HasPagesUpTo new t next
-pages-after old new t fill next has rises maps p window = by (cases_lt p (end_page fill)) (cases_lt p (end_page next))
+pages-after old new t fill next has rises maps = subst (HasRun new t Image (first_page Image)) total (run-grown old new t Image (first_page Image) (pages_up_to fill) (further_pages fill next) has maps)
   where
-    further : end_page fill + further_pages fill next ≡ end_page next
-    further = omega arith
-
-    by : (p < end_page fill) ⊎ (end_page fill ≤ p) → (p < end_page next) ⊎ (end_page next ≤ p) → is_mapped new t p ≡ ltb p (end_page next)
-    by (inl below) side =
-        ap is_some (maps.others t p (inr (inl below))) ∙ has p window ∙ lt-ltb p (end_page fill) below ∙ sym (lt-ltb p (end_page next) (omega (arith, below, further)))
-    by (inr from) (inl within) =
-        ap is_some (maps.zeros p (record { from = from; to = omega (arith, within, further) })).now ∙ sym (lt-ltb p (end_page next) within)
-    by (inr from) (inr behind) =
-        ap is_some (maps.others t p (inr (inr (omega (arith, behind, further))))) ∙ has p window ∙ le-ltb p (end_page fill) from ∙ sym (le-ltb p (end_page next) behind)
+    total : pages_up_to fill + further_pages fill next ≡ pages_up_to next
+    total = omega (arith, rises)

@@ -1,11 +1,12 @@
 -- The image space: objects placed one directly behind the other, and the pages that hold their bytes.
-use Rattle.std.specs.Prelude.{◌≡◌, ℕ, ◌+◌, ◌-◌, ◌/◌, ◌%◌, ◌≤◌, ◌==◌, ◌||◌, nat_lt, IsTrue, List, [], ◌∷◌, sum}
+use Rattle.std.specs.Prelude.{◌≡◌, ℕ, ◌+◌, ◌-◌, ◌/◌, ◌%◌, ◌≤◌, ◌==◌, ◌||◌, List, [], ◌∷◌, sum}
 use Rattle.std.specs.List.{list_any}
 use Rattle.model_numbers.specs.Numbers.{image_base, image_length, page_bytes, most_array_bytes}
 use Rattle.page_tables.specs.declared.address.Window.TheVariants.{Image}
-use Rattle.page_tables.specs.Address.{first_page, is_in}
-use Rattle.cow_pages.specs.Memory.{Memory, is_mapped}
+use Rattle.page_tables.specs.Address.{first_page}
+use Rattle.cow_pages.specs.Memory.{Memory}
 use Rattle.mark_bitmap.specs.Marks.{Marks, is_marked}
+use Rattle.page_runs.specs.Runs.{HasRun}
 
 -- how many bytes the objects have together, and the set of the addresses at which they start
 pub record Space : Type 0 where
@@ -43,7 +44,7 @@ pub record IsSpace (s : Space) : Type 0 where
 
 -- of the image window's pages, exactly those are mapped that hold so many bytes
 abbrev pub HasPagesUpTo : Memory → ℕ → ℕ → Type 0
-HasPagesUpTo m t fill = (p : ℕ) → IsTrue (is_in Image p) → is_mapped m t p ≡ nat_lt p (end_page fill)
+HasPagesUpTo m t fill = HasRun m t Image (first_page Image) (pages_up_to fill)
 
 -- an object of this size was placed at this address: behind all others, and one more start
 pub record Places (old new : Space) (at size : ℕ) : Type 0 where

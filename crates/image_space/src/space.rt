@@ -1,6 +1,7 @@
 ghost use Rattle.std.specs.Prelude.{◌≡◌, ◌⊎◌, ℕ, ◌+◌, ◌-◌, ◌<◌, IsTrue, IsFalse, IfOk, IfErr, Err};
 ghost use Rattle.model_numbers.specs.Numbers.{image_length};
 ghost use Rattle.cow_pages.specs.Memory.{is_live, IsSound};
+ghost use Rattle.cow_pages.specs.Only.{OnlyTable};
 ghost use Rattle.cow_pages.specs.View.{view_of, OthersSeen};
 ghost use Rattle.mark_bitmap.specs.Marks.{is_marked};
 ghost use Rattle.image_space.specs.declared.space.ImageError.{ImageError};
@@ -78,6 +79,7 @@ impl ImageSpace {
         ensures maps { IfOk result (λ _. MapsRun frames.old frames.new t.0 (end_page self.old.fill) (further_pages self.old.fill (self.old.fill + size))) }
         ensures view { IfOk result (λ _. SeesRun (view_of frames.old t.0) (view_of frames.new t.0) (end_page self.old.fill) (further_pages self.old.fill (self.old.fill + size))) }
         ensures others_seen { IfOk result (λ _. OthersSeen frames.old frames.new t.0) }
+        ensures only { OnlyTable frames.old frames.new t.0 }
         ensures live { IsTrue (is_live frames.new t.0) }
         ensures pages { HasPagesUpTo frames.new t.0 self.new.fill }
         ensures full { image_length < self.old.fill + size → (result ≡ Err (ImageError.Full self.old.fill size)) × (frames.new ≡ frames.old) }

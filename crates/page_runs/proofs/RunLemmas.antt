@@ -58,6 +58,8 @@ pub record IsMapping (old new : Memory) (t first n : ℕ) : Type 0 where
   pub live : (u : ℕ) → is_live new u ≡ is_live old u
   pub reads : new.reads ≡ old.reads
   pub spare : old.spare ≤ new.spare + n
+  pub frames_stay : old.frames ≤ new.frames
+  pub leaves_stay : old.leaf_count ≤ new.leaf_count
   pub frames : new.frames ≤ old.frames + (n - old.spare)
   pub leaf_count : new.leaf_count ≤ old.leaf_count + (n - old.spare)
   pub used : used_frames new ≡ used_frames old + n
@@ -73,6 +75,8 @@ mapping-none m t first = record {
   live = λ u. refl;
   reads = refl;
   spare = omega arith;
+  frames_stay = omega arith;
+  leaves_stay = omega arith;
   frames = omega arith;
   leaf_count = omega arith;
   used = omega arith;
@@ -102,6 +106,8 @@ mapping-next old mid new t first n i fresh within m z change one = record {
   live = λ u. change.live u ∙ m.live u;
   reads = change.reads ∙ m.reads;
   spare = omega (arith, m.spare, one.spare);
+  frames_stay = omega (arith, m.frames_stay, one.frames_stay);
+  leaves_stay = omega (arith, m.leaves_stay, one.leaves_stay);
   frames = omega (arith, m.spare, m.frames, one.frames);
   leaf_count = omega (arith, m.spare, m.leaf_count, one.leaf_count);
   used = omega (arith, m.used, one.used);
@@ -125,6 +131,8 @@ mapping-all old new t first n m fresh sound = record {
   live = m.live;
   reads = m.reads;
   spare = m.spare;
+  frames_stay = m.frames_stay;
+  leaves_stay = m.leaves_stay;
   frames = m.frames;
   leaf_count = m.leaf_count;
   used = m.used;
@@ -150,6 +158,8 @@ mapping-reserved old mid new t first n sound made maps = by (subst (λ (m : Memo
       live = m.live;
       reads = m.reads;
       spare = omega (arith, m.spare, made.spare);
+      frames_stay = omega (arith, m.frames_stay, made.frames);
+      leaves_stay = omega (arith, m.leaves_stay, made.leaf_count);
       frames = omega (arith, m.frames, made.spare, made.frames, sound.spare_is, sound.frames_counted);
       leaf_count = omega (arith, m.leaf_count, made.spare, made.leaf_count, sound.spare_is, sound.leaves_counted);
       used = m.used;

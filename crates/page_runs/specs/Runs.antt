@@ -35,7 +35,9 @@ pub record MapsRun (old new : Memory) (t first n : ℕ) : Type 0 where
   pub reads : new.reads ≡ old.reads
   -- no more is taken of what was free than there are pages
   pub spare : old.spare ≤ new.spare + n
-  -- no frame and no leaf was made but for want of one that was free
+  -- no frame and no leaf was lost, and none made but for want of one that was free
+  pub frames_stay : old.frames ≤ new.frames
+  pub leaves_stay : old.leaf_count ≤ new.leaf_count
   pub frames : new.frames ≤ old.frames + (n - old.spare)
   pub leaf_count : new.leaf_count ≤ old.leaf_count + (n - old.spare)
   -- and as many more frames have entries

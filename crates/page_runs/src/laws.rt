@@ -3,7 +3,8 @@ ghost use Rattle.std.specs.Prelude.{◌≡◌, ℕ, ◌+◌, ◌≤◌};
 ghost use Rattle.page_tables.specs.declared.address.Window.{Window};
 ghost use Rattle.page_tables.specs.Address.{first_page, page_count};
 ghost use Rattle.cow_pages.specs.Memory.{Memory, IsSound, mapped_in};
-ghost use Rattle.page_runs.specs.Runs.{HasRun, MapsRun};
+ghost use Rattle.cow_pages.specs.Only.{OnlyTable};
+ghost use Rattle.page_runs.specs.Runs.{HasRun, MapsRun, ReleasesRun};
 
 /// A window of which a table has exactly a run has as many pages as the run.
 pub fn runs_are_counted()
@@ -20,4 +21,10 @@ pub fn runs_join()
 /// Where a table has exactly a run of a window's pages, and a run directly behind it is mapped, it has exactly both.
 pub fn runs_grow()
     ensures { (old new : Memory) (t : ℕ) (w : Window) (first n k : ℕ) → HasRun old t w first n → MapsRun old new t (first + n) k → HasRun new t w first (n + k) }
+{}
+
+/// Mapping a run, and releasing one, changes one table alone.
+pub fn runs_are_of_one_table()
+    ensures mapped { (old new : Memory) (t first n : ℕ) → MapsRun old new t first n → OnlyTable old new t }
+    ensures released { (old new : Memory) (t first n : ℕ) → ReleasesRun old new t first n → OnlyTable old new t }
 {}

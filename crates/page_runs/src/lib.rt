@@ -4,5 +4,5 @@
 mod laws;
 mod runs;
 
-pub use laws::{runs_are_counted, runs_grow, runs_join};
+pub use laws::{runs_are_counted, runs_are_of_one_table, runs_grow, runs_join};
 pub use runs::{map_reserved, map_run, release_run};

@@ -1,6 +1,6 @@
 use Rattle.std.proofs.Common.{◌≡◌, ℕ, ◌+◌, ◌-◌, ap, subst, arith}
 use Rattle.page_runs.specs.Runs.{MapsRun}
-use Rattle.page_runs.proofs.RunLemmas.{Reserved, mapping-reserved, run-seen, others-seen}
+use Rattle.page_runs.proofs.RunLemmas.{Reserved, mapping-reserved, run-seen, run-only, others-seen}
 use Rattle.image_space.specs.Space.{Space, HasPagesUpTo, end_page, further_pages}
 use Rattle.image_space.proofs.PageLemmas.{pages-after}
 use Rattle.image_space.proofs.space.ImageSpace.place.Goals as goal
@@ -36,6 +36,11 @@ pub returns-clause-others_seen : goal.returns-clause-others_seen
 returns-clause-others_seen c =
     let old = c.args.self.now.fill in
     others-seen c.args.frames.now c.map_reserved.new.frames c.args.t.0 (end_page old) (further_pages old (old + c.args.size)) (returns-clause-maps c).others
+
+pub returns-clause-only : goal.returns-clause-only
+returns-clause-only c =
+    let old = c.args.self.now.fill in
+    run-only c.args.frames.now c.map_reserved.new.frames c.args.t.0 (end_page old) (further_pages old (old + c.args.size)) (returns-clause-maps c)
 
 pub returns-clause-pages : goal.returns-clause-pages
 returns-clause-pages c =
