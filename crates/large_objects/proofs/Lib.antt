@@ -1,0 +1,4 @@
+pub mod LawLemmas
+pub mod PageLemmas
+pub mod RowLemmas
+pub mod TableLemmas
