@@ -1,0 +1,5 @@
+pub mod ChainLemmas
+pub mod MoveLemmas
+pub mod RowLemmas
+pub mod NewLemmas
+pub mod OpenLemmas

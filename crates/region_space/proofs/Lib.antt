@@ -1,0 +1,6 @@
+pub mod PackLemmas
+pub mod WalkLemmas
+pub mod RoomLemmas
+pub mod PageLemmas
+pub mod DropLemmas
+pub mod CountLemmas
