@@ -1,5 +1,5 @@
 -- References that were cleared, as a step over pages.
-use Rattle.std.proofs.Common.{◌≡◌, ◌∙◌, ℕ, List, true, sym, ap, inl, inr}
+use Rattle.std.proofs.Common.{◌≡◌, ◌∙◌, ℕ, List, sym, ap, inl, inr}
 use Rattle.std.proofs.lemmas.Bool.{cases_Bool}
 use Rattle.cow_pages.specs.Memory.{flag_of, is_mapped, Memory}
 use Rattle.object_view.proofs.Spans.{frame-same}
