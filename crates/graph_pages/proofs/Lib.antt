@@ -9,3 +9,5 @@ pub mod Paged
 pub mod Held
 pub mod Named
 pub mod Grown
+pub mod Cleared
+pub mod Nulled

@@ -1,3 +1,4 @@
 pub mod Holds
 pub mod Pages
 pub mod Collected
+pub mod Cleared

@@ -1,12 +1,13 @@
 //! Laws above the definitions: when memory holds a graph, and when it holds the graph after a step.
 ghost use Rattle.std.specs.Prelude.{◌≡◌, ◌↔◌, ◌||◌, ◌++◌, ◌∷◌, [], ℕ, ◌+◌, ◌<◌, true, IsTrue, List, ℤ};
+ghost use Rattle.std.specs.List.{All};
 ghost use Rattle.class_layout.specs.declared.kind.Kind.{Kind};
 ghost use Rattle.class_layout.specs.ClassList.{Class};
 ghost use Rattle.class_layout.specs.Placing.{IsIn};
 ghost use Rattle.page_tables.specs.declared.address.Window.{Window};
 ghost use Rattle.page_tables.specs.Address.{page_of};
 ghost use Rattle.cow_pages.specs.Memory.{is_mapped, Memory};
-ghost use Rattle.cow_pages.specs.View.{View};
+ghost use Rattle.cow_pages.specs.View.{view_of, View};
 ghost use Rattle.heap_graph.specs.declared.names.Stored.{Stored};
 ghost use Rattle.heap_graph.specs.declared.names.Place.{Place};
 ghost use Rattle.heap_graph.specs.declared.names.Shape.{Shape};
@@ -20,11 +21,15 @@ ghost use Rattle.object_view.specs.Changes.{ChangesWithin, PutsNumber};
 ghost use Rattle.object_view.specs.Objects.{IsKnown, IsPlace};
 ghost use Rattle.object_view.specs.Seen.{seen_value};
 ghost use Rattle.object_view.specs.Values.{number_of};
+ghost use Rattle.raw_objects.specs.Keeps.{Keeps};
 ghost use Rattle.raw_objects.specs.Raws.{new_raw, HoldsRaws, Raws, StandsRaw};
+ghost use Rattle.raw_objects.specs.References.{IsSlotIn};
 ghost use Rattle.address_table.specs.Computed.{table_of, Homes, HouseAll};
+ghost use Rattle.graph_pages.specs.Cleared.{nulled};
 ghost use Rattle.graph_pages.specs.Collected.{AreTurned, Going};
 ghost use Rattle.graph_pages.specs.Holds.{raws_under, AreAmong, HoldsGraph, IsBeside, SameTable, TellsApart};
 ghost use Rattle.graph_pages.specs.Pages.{has_bytes_in, page_named, MapsWindow, PagesHold};
+ghost use Rattle.weak_refs.specs.Weak.{is_page_of, ClearsSlots};
 ghost use Rattle.world_laws.specs.Named.{is_named};
 ghost use Rattle.heap_world.specs.declared.names.PageName.{PageName};
 
@@ -73,6 +78,17 @@ pub fn computed_addresses_stay()
 pub fn new_objects_lie_beside()
     ensures { (homes : Homes) (g : Graph) (shape : Shape) (slots : List Stored) (place : Place) → IsFormed g → IsFormed (with_object g shape slots place) → HouseAll homes (with_object g shape slots place)
         → IsBeside g.classes (table_of homes g) g.objects (table_of homes (with_object g shape slots place) g.next) (size_in g.classes shape) }
+{}
+
+/// Where references of a table were cleared, the pages with one of them may have changed, and no other.
+pub fn cleared_pages_are_kept()
+    ensures { (old new : Memory) (t : ℕ) (slots : List ℕ) → ClearsSlots old new t slots → Keeps old new t (is_page_of slots) }
+{}
+
+/// Where references of raw objects were cleared, memory holds the objects with null in these.
+pub fn cleared_objects_are_held()
+    ensures { (cs : List Class) (old new : Memory) (t : ℕ) (slots : List ℕ) (raws : Raws) → HoldsRaws cs (view_of old t) raws → All (λ at. (n : ℕ) × IsSlotIn cs raws at n) slots
+        → ClearsSlots old new t slots → HoldsRaws cs (view_of new t) (nulled raws slots) }
 {}
 
 /// An object has bytes in exactly the pages in which one of its bytes lies.

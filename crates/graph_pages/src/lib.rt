@@ -6,8 +6,8 @@ mod laws;
 mod steps;
 
 pub use laws::{
-    addresses_differ, collected_graphs_stand, computed_addresses_stay, graphs_are_raw_objects,
-    grown_graphs_stand, names_have_pages, new_objects_lie_beside, pages_follow_objects,
-    pages_have_bytes, stored_graphs_stand,
+    addresses_differ, cleared_objects_are_held, cleared_pages_are_kept, collected_graphs_stand,
+    computed_addresses_stay, graphs_are_raw_objects, grown_graphs_stand, names_have_pages,
+    new_objects_lie_beside, pages_follow_objects, pages_have_bytes, stored_graphs_stand,
 };
 pub use steps::{add_to_graph, store_in_graph};

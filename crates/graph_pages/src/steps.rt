@@ -4,6 +4,7 @@ ghost use Rattle.model_numbers.specs.Numbers.{number_limit};
 ghost use Rattle.class_layout.specs.declared.kind.FieldAt.{FieldAt};
 ghost use Rattle.page_tables.specs.Address.{page_of};
 ghost use Rattle.cow_pages.specs.Memory.{HasOneSharer, IsSound};
+ghost use Rattle.cow_pages.specs.Change.{TakesOnCopy};
 ghost use Rattle.cow_pages.specs.View.{view_of};
 ghost use Rattle.heap_graph.specs.declared.names.Content.{Content};
 ghost use Rattle.heap_graph.specs.declared.names.Place.{Place};
@@ -43,6 +44,7 @@ pub fn store_in_graph(
     ensures keeps { (may : ℕ → Bool) → may (page_of (at.0 + offset)) ≡ true → Keeps frames.old frames.new t.0 may }
     ensures written { OnOk result (AreWritten frames.new t.0 (page_of (at.0 + offset)) 1) }
     ensures reads { frames.new.reads ≡ frames.old.reads }
+    ensures takes { OnOk result (TakesOnCopy frames.old frames.new t.0 (page_of (at.0 + offset))) }
     ensures succeeds { HasOneSharer frames.old t.0 (page_of (at.0 + offset)) ⊎ (frames.old.spare ≢ 0) → IsOk result }
     ensures err { OnErr result (frames.new ≡ frames.old) }
     ensures sound { IsSound frames.new }

@@ -1,7 +1,7 @@
 -- Which pages a step leaves as they were.
 use Rattle.std.proofs.Common.{◌≡◌, ◌⊎◌, ◌∙◌, Bool, true, false, Option, Some, None, ℕ, ◌*◌, ◌+◌, ◌-◌, ◌<◌, ◌≤◌, refl, cond, inl, inr, IsTrue, sym, ap, subst, arith}
 use Rattle.std.specs.Prelude.{is_some, option_map, Result, OnOk, OnErr}
-use Rattle.std.proofs.lemmas.Bool.{cases_eq, cases_lt, lt-ltb, true≢false}
+use Rattle.std.proofs.lemmas.Bool.{cases_eq, cases_lt, le-ltb, lt-ltb, true≢false}
 use Rattle.std.proofs.lemmas.Result.{on_err_weaker, on_ok_weaker}
 use Rattle.class_layout.specs.declared.kind.Kind.{Kind}
 use Rattle.page_tables.specs.Address.{page_of}
@@ -12,6 +12,7 @@ use Rattle.object_view.specs.Changes.{pages_in, AreWritten, ChangesPages, PutsNu
 use Rattle.object_view.specs.Objects.{IsSpace}
 use Rattle.object_view.proofs.Alone.{alone-stays, frame-beside}
 use Rattle.object_view.proofs.Outcomes.{either, on_ok_both}
+use Rattle.object_view.proofs.Spans.{room-after, room-reads, room-same}
 use Rattle.raw_objects.specs.Keeps.{Covers, Keeps}
 
 -- the same addresses are mapped, so the same pages are
@@ -34,6 +35,14 @@ space-page m t at size p space some low high =
           let same : page_of (at + (p * 4096 - at)) ≡ p = omega arith in
           ap (is_mapped m t) (sym same) ∙ space.mapped (p * 4096 - at) (omega arith)
     ]
+
+space-pages : (m : Memory) (t at size : ℕ) → IsSpace (view_of m t) at size → (p : ℕ) → page_of at ≤ p → p < page_of at + pages_in at (at + size) → IsTrue (is_mapped m t p)
+space-pages m t at size space p low high = elim (cases_lt 0 size) [
+  | inl some ↦ space-page m t at size p space some low high
+  | inr none ↦
+      let count : pages_in at (at + size) ≡ 0 = ap (λ b. cond {A = ℕ} b (page_of (at + size - 1) + 1 - page_of at) 0) (le-ltb at (at + size) (omega (arith, none))) in
+      absurd (omega (arith, count, low, high))
+]
 
 pub object-page : (m : Memory) (t at size : ℕ) → IsSpace (view_of m t) at size → 0 < size → IsTrue (is_mapped m t (page_of at))
 object-page m t at size space some = let same : at + 0 ≡ at = omega arith in ap (λ b. is_mapped m t (page_of b)) (sym same) ∙ space.mapped 0 some
@@ -62,14 +71,14 @@ own-page old new t first n pages sound same q = by (page_at new t q) refl (page_
 
 -- nothing was done
 pub keeps-none : (m : Memory) (t : ℕ) (may : ℕ → Bool) → Keeps m m t may
-keeps-none m t may = record { mapped = λ q. refl; alone = λ q is one. one; written = λ q is. is; others = λ u q off. refl; live = λ u. refl; own = λ q. inl refl }
+keeps-none m t may = record { mapped = λ q. refl; alone = λ q is one. one; written = λ q is. is; others = λ u q off. refl; live = λ u. refl; own = λ q. inl refl; room = λ all. room-same m }
 
 pub keeps-same : (old new : Memory) (t : ℕ) (may : ℕ → Bool) → new ≡ old → Keeps old new t may
 keeps-same old new t may e = subst (λ m. Keeps old m t may) (sym e) (keeps-none old t may)
 
 -- only the count of reads changed
 pub keeps-reads : (old : Memory) (t n : ℕ) (may : ℕ → Bool) → Keeps old (record old { reads = n }) t may
-keeps-reads old t n may = record { mapped = λ q. refl; alone = λ q is one. one; written = λ q is. is; others = λ u q off. refl; live = λ u. refl; own = λ q. inl refl }
+keeps-reads old t n may = record { mapped = λ q. refl; alone = λ q is one. one; written = λ q is. is; others = λ u q off. refl; live = λ u. refl; own = λ q. inl refl; room = λ all. room-reads old old n (room-same old) }
 
 pub keeps-read : (old new : Memory) (t n : ℕ) (may : ℕ → Bool) → new ≡ record old { reads = n } → Keeps old new t may
 keeps-read old new t n may e = subst (λ m. Keeps old m t may) (sym e) (keeps-reads old t n may)
@@ -96,6 +105,8 @@ keeps-then a b c t may one two = record {
       | inr mine ↦ by q same mine (is_mapped b t q) refl
     ]
   ];
+  room = λ all. room-after a b c (one.room all)
+      (two.room (λ q is mapped. let before : IsTrue (is_mapped a t q) = sym (one.mapped q) ∙ mapped in one.alone q before (all q is before)));
 }
   where
     by : (q : ℕ) → frame_at c t q ≡ frame_at b t q → HasOneSharer b t q → (m : Bool) → is_mapped b t q ≡ m → (frame_at c t q ≡ frame_at a t q) ⊎ HasOneSharer c t q
@@ -118,6 +129,7 @@ keeps-wider old new t may more k wider = record {
   others = λ u q off. k.others u q (elim off [ inl ne ↦ inl ne | inr out ↦ inr (off-wider may more q wider out) ]);
   live = k.live;
   own = k.own;
+  room = λ all. k.room (λ q is mapped. all q (wider q is) mapped);
 }
 
 -- a step changes its table alone
@@ -130,9 +142,10 @@ one-table old new t may k = record {
 
 -- some pages changed
 pub keeps-pages : (old new : Memory) (t first n : ℕ) (may : ℕ → Bool) → ChangesPages old new t first n → IsSound new → ((q : ℕ) → is_mapped new t q ≡ is_mapped old t q)
+    → ((q : ℕ) → first ≤ q → q < first + n → IsTrue (is_mapped old t q))
     → ((q : ℕ) → first ≤ q → q < first + n → IsTrue (is_written old t q) → IsTrue (is_written new t q))
     → ((q : ℕ) → first ≤ q → q < first + n → may q ≡ true) → Keeps old new t may
-keeps-pages old new t first n may pages sound same flags covers = record {
+keeps-pages old new t first n may pages sound same there flags covers = record {
   mapped = same;
   alone = λ q is one. (alone-stays old new t first n pages t q is (same q ∙ is) one).1;
   written = λ q is. elim (cases_lt q first) [
@@ -148,14 +161,16 @@ keeps-pages old new t first n may pages sound same flags covers = record {
   ]);
   live = pages.live;
   own = own-page old new t first n pages sound same;
+  room = λ all. pages.in_place (λ q low high. all q (covers q low high) (there q low high));
 }
 
 -- a store that did what it does, or nothing
-pub keeps-put : {T E : Type 0} (r : Result T E) (old new : Memory) (t : ℕ) (kind : Kind) (at n p : ℕ) (may : ℕ → Bool) → ChangesPages old new t p 1 → IsSound new
+pub keeps-put : {T E : Type 0} (r : Result T E) (old new : Memory) (t : ℕ) (kind : Kind) (at n p : ℕ) (may : ℕ → Bool) → ChangesPages old new t p 1 → IsSound new → IsTrue (is_mapped old t p)
     → OnOk r (PutsNumber (view_of old t) (view_of new t) kind at n) → OnOk r (AreWritten new t p 1) → OnErr r (new ≡ old) → may p ≡ true → Keeps old new t may
-keeps-put r old new t kind at n p may pages sound puts written err covers =
+keeps-put r old new t kind at n p may pages sound there puts written err covers =
     either r
-    (on_ok_both r (λ put flags. keeps-pages old new t p 1 may pages sound (λ q. page-mapped old new t q put.rest.mapped) (λ q low high was. flags q low high)
+    (on_ok_both r (λ put flags. keeps-pages old new t p 1 may pages sound (λ q. page-mapped old new t q put.rest.mapped)
+    (λ q low high. subst (λ x. IsTrue (is_mapped old t x)) (let e : p ≡ q = omega arith in e) there) (λ q low high was. flags q low high)
     (λ q low high. ap may (let e : q ≡ p = omega arith in e) ∙ covers)) puts written)
     (on_err_weaker r (keeps-same old new t may) err)
 
@@ -170,13 +185,13 @@ words-flags old new t at n q w is =
     ]
 
 -- a whole object was written, or its first words were
-pub keeps-words : {T E : Type 0} (r : Result T E) (old new : Memory) (t at size : ℕ) (may : ℕ → Bool) → ChangesPages old new t (page_of at) (pages_in at (at + size)) → IsSound new
+pub keeps-words : {T E : Type 0} (r : Result T E) (old new : Memory) (t at size : ℕ) (may : ℕ → Bool) → ChangesPages old new t (page_of at) (pages_in at (at + size)) → IsSound new → IsSpace (view_of old t) at size
     → ((b : ℕ) → (view_of new t).mapped b ≡ (view_of old t).mapped b) → OnOk r (AreWritten new t (page_of at) (pages_in at (at + size)))
     → OnErr r ((n : ℕ) × (8 * n ≤ size) × WritesWords old new t at n) → Covers may at size → Keeps old new t may
-keeps-words r old new t at size may pages sound same written partly covers =
+keeps-words r old new t at size may pages sound space same written partly covers =
     either r
-    (on_ok_weaker r (λ flags. keeps-pages old new t (page_of at) (pages_in at (at + size)) may pages sound (λ q. page-mapped old new t q same) (λ q low high was. flags q low high) covers) written)
-    (on_err_weaker r (λ it. keeps-pages old new t (page_of at) (pages_in at (at + size)) may pages sound (λ q. page-mapped old new t q same) (λ q low high was. words-flags old new t at it.0 q it.2 was) covers) partly)
+    (on_ok_weaker r (λ flags. keeps-pages old new t (page_of at) (pages_in at (at + size)) may pages sound (λ q. page-mapped old new t q same) (space-pages old t at size space) (λ q low high was. flags q low high) covers) written)
+    (on_err_weaker r (λ it. keeps-pages old new t (page_of at) (pages_in at (at + size)) may pages sound (λ q. page-mapped old new t q same) (space-pages old t at size space) (λ q low high was. words-flags old new t at it.0 q it.2 was) covers) partly)
 
 pub page-in : (at size b : ℕ) → at ≤ b → b < at + size → page_of b < page_of at + pages_in at (at + size)
 page-in at size b low high =

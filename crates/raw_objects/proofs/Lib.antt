@@ -3,3 +3,4 @@ pub mod Kept
 pub mod Paging
 pub mod Turned
 pub mod Uncounted
+pub mod Counted

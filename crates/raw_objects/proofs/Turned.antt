@@ -277,7 +277,7 @@ first-last cs v raws done at k none h =
     (λ a p has within kind. ap (λ b. b || done (a + p.offset)) (first-all cs shape at k (a + p.offset) past)))
 
 -- references stand 4 bytes apart
-rises-by : (cs : List Class) (shape : Shape) (k : ℕ) (p : FieldAt) → reference_place cs shape k ≡ Some p → 4 * k ≤ p.offset
+pub rises-by : (cs : List Class) (shape : Shape) (k : ℕ) (p : FieldAt) → reference_place cs shape k ≡ Some p → 4 * k ≤ p.offset
 rises-by cs shape zero p is = omega arith
 rises-by cs shape (suc k) p is =
     let below : suc k < reference_count cs shape = elim (cases_lt (suc k) (reference_count cs shape)) [ inl lt ↦ lt | inr ge ↦ absurd (none-some p (sym (references-none cs shape (suc k) ge) ∙ is)) ] in

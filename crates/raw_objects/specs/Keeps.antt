@@ -2,6 +2,7 @@
 use Rattle.std.specs.Prelude.{◌≡◌, ◌≢◌, ◌⊎◌, ℕ, ◌+◌, ◌<◌, ◌≤◌, Bool, true, false, IsTrue}
 use Rattle.page_tables.specs.Address.{page_of}
 use Rattle.cow_pages.specs.Memory.{Memory, frame_at, is_live, is_mapped, is_written, page_at, HasOneSharer}
+use Rattle.cow_pages.specs.Change.{KeepsRoom}
 use Rattle.object_view.specs.Changes.{pages_in}
 
 -- the table has the pages that it had, and of them these alone may have changed
@@ -17,6 +18,8 @@ pub record Keeps (old new : Memory) (t : ℕ) (may : ℕ → Bool) : Type 0 wher
   pub live : (u : ℕ) → is_live new u ≡ is_live old u
   -- a page has its old frame, or one of its own
   pub own : (q : ℕ) → (frame_at new t q ≡ frame_at old t q) ⊎ HasOneSharer new t q
+  -- no frame and no leaf is taken where each page that may change has its frame alone
+  pub room : ((q : ℕ) → may q ≡ true → IsTrue (is_mapped old t q) → HasOneSharer old t q) → KeepsRoom old new
 
 -- each page of so many bytes from an address on passes the test
 abbrev pub Covers : (ℕ → Bool) → ℕ → ℕ → Type 0

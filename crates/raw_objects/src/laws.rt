@@ -4,6 +4,7 @@ ghost use Rattle.class_layout.specs.declared.kind.FieldAt.{FieldAt};
 ghost use Rattle.class_layout.specs.declared.kind.Kind.{Kind};
 ghost use Rattle.class_layout.specs.ClassList.{Class};
 ghost use Rattle.class_layout.specs.Placing.{IsIn};
+ghost use Rattle.page_tables.specs.Address.{page_of};
 ghost use Rattle.cow_pages.specs.Memory.{is_mapped, is_written, IsSound, Memory};
 ghost use Rattle.cow_pages.specs.Only.{OnlyTable};
 ghost use Rattle.cow_pages.specs.View.{view_of, SameBeside, SameView, View};
@@ -45,10 +46,12 @@ pub fn moved_objects_are_held()
 {}
 
 /// Memory holds the objects as before where no byte of theirs changed: but for bytes that no object has, for a page
-/// without any, for a run of pages that was mapped, and for nothing at all.
+/// without any, for pages without any that are gone, for a run of pages that was mapped, and for nothing at all.
 pub fn other_objects_are_held()
     ensures bytes { (cs : List Class) (old new : View) (raws : Raws) (at size : ℕ) → HoldsRaws cs old raws → IsFreeSpace cs raws at size → ChangesWithin old new at (at + size) → HoldsRaws cs new raws }
     ensures page { (cs : List Class) (old new : View) (raws : Raws) (p : ℕ) → HoldsRaws cs old raws → IsOffPage cs raws p → SameBeside old new p → HoldsRaws cs new raws }
+    ensures pages { (cs : List Class) (old new : View) (raws : Raws) (gone : ℕ → Bool) → HoldsRaws cs old raws → ((p : ℕ) → gone p ≡ true → IsOffPage cs raws p)
+        → ((at : ℕ) → gone (page_of at) ≡ false → (new.byte at ≡ old.byte at) × (new.mapped at ≡ old.mapped at)) → HoldsRaws cs new raws }
     ensures run { (cs : List Class) (old new : Memory) (t first n : ℕ) (raws : Raws) → HoldsRaws cs (view_of old t) raws → MapsRun old new t first n → HoldsRaws cs (view_of new t) raws }
     ensures all { (cs : List Class) (old new : View) (raws : Raws) → HoldsRaws cs old raws → SameView old new → HoldsRaws cs new raws }
 {}
@@ -90,6 +93,7 @@ pub fn kept_pages_are_of_one_table()
 /// A change of some pages is a step that may change these, where the same pages are mapped and no flag of theirs is cleared.
 pub fn changed_pages_are_kept()
     ensures pages { (old new : Memory) (t first n : ℕ) (may : ℕ → Bool) → ChangesPages old new t first n → IsSound new → ((q : ℕ) → is_mapped new t q ≡ is_mapped old t q)
+        → ((q : ℕ) → first ≤ q → q < first + n → IsTrue (is_mapped old t q))
         → ((q : ℕ) → first ≤ q → q < first + n → IsTrue (is_written old t q) → IsTrue (is_written new t q))
         → ((q : ℕ) → first ≤ q → q < first + n → may q ≡ true) → Keeps old new t may }
     ensures reads { (old : Memory) (t n : ℕ) (may : ℕ → Bool) → Keeps old (record old { reads = n }) t may }

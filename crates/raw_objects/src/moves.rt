@@ -6,6 +6,7 @@ ghost use Rattle.cow_pages.specs.Memory.{is_mapped, HasOneSharer, IsSound};
 ghost use Rattle.cow_pages.specs.View.{view_of};
 ghost use Rattle.object_view.specs.Changes.{pages_in, reads_after_all, steps_from, AreAlone};
 ghost use Rattle.object_view.specs.Objects.{IsSpace};
+ghost use Rattle.object_view.specs.Seen.{RoseBy};
 ghost use Rattle.raw_objects.specs.Keeps.{Covers, Keeps};
 ghost use Rattle.raw_objects.specs.Raws.{evacuated, raw_size, HoldsRaws, IsFreeSpace, Raws};
 ghost use Rattle.raw_objects.specs.References.{goes, in_regions, is_first_reference, is_reference, turned_where, IsReadable, IsSlotIn, IsTurnable};
@@ -89,8 +90,8 @@ pub fn turn_slot(frames: &mut Frames, t: TableNo, at: Addr, target: Addr) -> Res
     Ok(())
 }
 
-/// Turns all references of an object, none of which is turned yet. Where it stands in the regions, no read is counted.
-/// After `AllocError` some first ones are turned.
+/// Turns all references of an object, none of which is turned yet. Where it stands in the regions, no read is counted,
+/// and else at most 4 for each 4 bytes of it, and 16 more. After `AllocError` some first ones are turned.
 pub fn turn_object(
     frames: &mut Frames,
     classes: &Classes,
@@ -105,6 +106,8 @@ pub fn turn_object(
     ensures keeps { (raws : Raws) (done may : ℕ → Bool) → IsTurnable classes.now (view_of frames.old t.0) raws done at.0 → Covers may at.0 (raw_size classes.now raws at.0)
         → Keeps frames.old frames.new t.0 may }
     ensures reads { in_regions at.0 ≡ true → frames.new.reads ≡ frames.old.reads }
+    ensures bounded { IsSound frames.old → (raws : Raws) (done : ℕ → Bool) → IsTurnable classes.now (view_of frames.old t.0) raws done at.0
+        → RoseBy (raw_size classes.now raws at.0 + 16) frames.old.reads frames.new.reads }
     ensures succeeds { (raws : Raws) (done : ℕ → Bool) → IsTurnable classes.now (view_of frames.old t.0) raws done at.0
         → AreAlone frames.old t.0 (page_of at.0) (pages_in at.0 (at.0 + raw_size classes.now raws at.0)) → IsOk result }
     ensures sound { IsSound frames.old → IsSound frames.new }

@@ -6,6 +6,7 @@ ghost use Rattle.class_layout.specs.ClassList.{Class};
 ghost use Rattle.class_layout.specs.Kinds.{kind_bytes};
 ghost use Rattle.page_tables.specs.Address.{page_of};
 ghost use Rattle.cow_pages.specs.Memory.{is_mapped, HasOneSharer, IsShared, IsSound};
+ghost use Rattle.cow_pages.specs.Change.{TakesOnCopy};
 ghost use Rattle.cow_pages.specs.View.{view_of};
 ghost use Rattle.heap_graph.specs.Sizes.{size_in};
 ghost use Rattle.object_view.specs.Changes.{pages_in, AreAlone, AreWritten};
@@ -38,6 +39,7 @@ pub fn store_value(
     ensures keeps { (may : ℕ → Bool) → may (page_of (at.0 + offset)) ≡ true → Keeps frames.old frames.new t.0 may }
     ensures written { OnOk result (AreWritten frames.new t.0 (page_of (at.0 + offset)) 1) }
     ensures reads { frames.new.reads ≡ frames.old.reads }
+    ensures takes { OnOk result (TakesOnCopy frames.old frames.new t.0 (page_of (at.0 + offset))) }
     ensures succeeds { HasOneSharer frames.old t.0 (page_of (at.0 + offset)) ⊎ (frames.old.spare ≢ 0) → IsOk result }
     ensures only { OnErr result (IsShared frames.old t.0 (page_of (at.0 + offset)) × (frames.old.spare ≡ 0)) }
     ensures err { OnErr result (frames.new ≡ frames.old) }

@@ -68,7 +68,7 @@ module _ (old new : Memory) (t : ℕ) (ds : List ℕ) (c : ClearsSlots old new t
       let e : page_of (p * page_bytes) ≡ p = omega arith in
       ap (is_mapped old t) (sym e) ∙ sym (c.bytes.mapped (p * page_bytes)) ∙ ap (is_mapped new t) e ∙ is
 
-  mapped-after : (p : ℕ) → is_page_of ds p ≡ true → is_mapped new t p ≡ true
+  pub mapped-after : (p : ℕ) → is_page_of ds p ≡ true → is_mapped new t p ≡ true
   mapped-after p is = let frame = written-frame new t p (c.written p is) in frame-mapped new t p frame.0 frame.1
 
   -- a page that had a frame of its own keeps it

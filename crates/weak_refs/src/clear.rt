@@ -40,7 +40,8 @@ pub fn clear_dead<K: KeepTest>(
         × (frames.new.reads ≡ reads_after_all frames.old.reads (take (k + 1) (addresses slots.now)))) }
     ensures others_seen { OthersSeen frames.old frames.new t.0 }
     ensures succeeds { ((p : ℕ) → is_page_of (dead_in (K.keeps kept.now) (view_of frames.old t.0) (addresses slots.now)) p ≡ true → HasOneSharer frames.old t.0 p) → IsOk result }
-    ensures sound { 0 < length slots.now → IsSound frames.new }
+    ensures sound { IsSound frames.old → IsSound frames.new }
+    ensures sound_after_some { 0 < length slots.now → IsSound frames.new }
 {
     let mut count: u32 = 0;
     for &at in slots {

@@ -31,20 +31,21 @@ returns-clause-err c =
 pub returns-in_err-copy_object-clause-keeps : goal.returns-in_err-copy_object-clause-keeps
 returns-in_err-copy_object-clause-keeps c may covers here =
     keeps-words c.copy_object.result c.args.frames.now c.copy_object.new.frames c.args.t.0 c.args.to.0 c.args.size may c.copy_object.ensures.pages (c.copy_object.ensures.sound c.requires.some)
-    c.copy_object.ensures.bytes.mapped c.copy_object.ensures.written c.copy_object.ensures.partly covers
+    c.requires.to_space c.copy_object.ensures.bytes.mapped c.copy_object.ensures.written c.copy_object.ensures.partly covers
 
 pub returns-clause-keeps : goal.returns-clause-keeps
 returns-clause-keeps c may covers here =
     keeps-then c.args.frames.now c.copy_object.new.frames c.set_forward.new.frames c.args.t.0 may
     (keeps-words c.copy_object.result c.args.frames.now c.copy_object.new.frames c.args.t.0 c.args.to.0 c.args.size may c.copy_object.ensures.pages (c.copy_object.ensures.sound c.requires.some)
-    c.copy_object.ensures.bytes.mapped c.copy_object.ensures.written c.copy_object.ensures.partly covers)
-    (keeps-put c.set_forward.result c.copy_object.new.frames c.set_forward.new.frames c.args.t.0 _ _ _ _ may c.set_forward.ensures.pages c.set_forward.ensures.sound c.set_forward.ensures.word
+    c.requires.to_space c.copy_object.ensures.bytes.mapped c.copy_object.ensures.written c.copy_object.ensures.partly covers)
+    (keeps-put c.set_forward.result c.copy_object.new.frames c.set_forward.new.frames c.args.t.0 _ _ _ _ may c.set_forward.ensures.pages c.set_forward.ensures.sound
+    (c.copy_object.ensures.bytes.mapped c.args.from.0 ∙ object-page c.args.frames.now c.args.t.0 c.args.from.0 c.args.size c.requires.from_space c.requires.some) c.set_forward.ensures.word
     c.set_forward.ensures.written c.set_forward.ensures.err here)
 
 pub returns-clause-succeeds : goal.returns-clause-succeeds
 returns-clause-succeeds c spaces one =
     let keeps = keeps-words c.copy_object.result c.args.frames.now c.copy_object.new.frames c.args.t.0 c.args.to.0 c.args.size (λ p. true) c.copy_object.ensures.pages (c.copy_object.ensures.sound c.requires.some)
-    c.copy_object.ensures.bytes.mapped c.copy_object.ensures.written c.copy_object.ensures.partly (λ p low high. refl) in
+    c.requires.to_space c.copy_object.ensures.bytes.mapped c.copy_object.ensures.written c.copy_object.ensures.partly (λ p low high. refl) in
     c.set_forward.ensures.succeeds (inl (keeps.alone (page_of c.args.from.0) (object-page c.args.frames.now c.args.t.0 c.args.from.0 c.args.size c.requires.from_space c.requires.some) one))
 
 pub returns-clause-reads : goal.returns-clause-reads

@@ -1,4 +1,4 @@
-use Rattle.std.proofs.Common.{◌≡◌, ◌∙◌, ◌+◌, ◌<◌, ◌≤◌, ◌-◌, ◌^◌, ℕ, true, refl, sym, ap, subst, arith}
+use Rattle.std.proofs.Common.{◌≡◌, ◌∙◌, ◌+◌, ◌*◌, ◌<◌, ◌≤◌, ◌-◌, ◌^◌, ℕ, true, refl, sym, ap, subst, arith}
 use Rattle.std.specs.Prelude.{is_ok, IsOk, ◌||◌}
 use Rattle.std.proofs.lemmas.Bool.{true≢false}
 use Rattle.page_tables.specs.Address.{page_of}
@@ -6,16 +6,19 @@ use Rattle.cow_pages.specs.Memory.{Memory}
 use Rattle.cow_pages.specs.View.{view_of}
 use Rattle.object_view.specs.Changes.{pages_in}
 use Rattle.object_view.specs.Objects.{reference_place}
+use Rattle.object_view.specs.Seen.{RoseBy}
 use Rattle.object_view.proofs.Outcomes.{on_err}
+use Rattle.object_view.proofs.Rises.{rose-more, rose-none}
 use Rattle.raw_objects.specs.Raws.{raw_size, HoldsRaws, Raws}
 use Rattle.raw_objects.specs.References.{is_first_reference}
 use Rattle.raw_objects.proofs.Kept.{covered, keeps-none, keeps-read, keeps-then, page-in, space-page}
+use Rattle.raw_objects.proofs.Counted.{slot-rose}
 use Rattle.raw_objects.proofs.Uncounted.{slot-free}
-use Rattle.raw_objects.proofs.Turned.{first-last, first-more, no-slot, none-last, object-held, raws-read, slot-readable, turned_first, turning}
+use Rattle.raw_objects.proofs.Turned.{first-last, first-more, no-slot, none-last, object-held, raws-read, rises-by, slot-readable, turned_first, turning}
 use Rattle.raw_objects.proofs.moves.turn_object.Goals as goal
 
 pub loop-k-init : goal.loop-k-init
-loop-k-init c = record { held = λ raws done ok. ok.holds; keeps = λ raws done may ok covers. keeps-none c.args.frames.now c.args.t.0 may; reads = λ is. refl; sound = λ s. s }
+loop-k-init c = record { held = λ raws done ok. ok.holds; keeps = λ raws done may ok covers. keeps-none c.args.frames.now c.args.t.0 may; reads = λ is. refl; bounded = λ s raws done ok. (omega arith, rose-none c.args.frames.now.reads); sound = λ s. s }
 
 pub ref_slot-requires : goal.ref_slot-requires
 ref_slot-requires c =
@@ -81,6 +84,16 @@ loop-k-preserved c =
           c.turn_slot.ensures.reads ∙ ap (λ (m : Memory). m.reads) (c.ref_slot.ensures.reads (raws.raw at).shape shape)
           ∙ slot-free (view_of c.loop-k.frames t) c.loop-k.frames.reads at (raws.raw at).shape c.ref_slot.result (reference_place cs (raws.raw at).shape c.loop-k.k) is (c.ref_slot.ensures.slot (raws.raw at).shape shape)
           ∙ c.loop-k.invariant.reads is;
+      bounded = λ s raws done ok.
+          let h = c.loop-k.invariant.held raws done ok in
+          let shape = (object-held cs _ (turned_first cs raws done at c.loop-k.k) at h ok.has).has_shape in
+          let it = turning cs _ _ raws done at c.loop-k.k c.in-Some.slot ok h (sym c.in-Some.is ∙ c.ref_slot.ensures.slot (raws.raw at).shape shape) in
+          let rose = slot-rose c.args.frames.now.reads c.loop-k.k at c.loop-k.frames c.ref_slot.new.frames (raws.raw at).shape c.ref_slot.result (c.loop-k.invariant.sound s)
+          (c.loop-k.invariant.bounded s raws done ok).1 (c.ref_slot.ensures.reads (raws.raw at).shape shape) in
+          let more : 3 * c.loop-k.k + 3 ≡ 3 * (c.loop-k.k + 1) = omega arith in (
+            omega (arith, rises-by cs (raws.raw at).shape c.loop-k.k it.place it.is, it.within),
+            subst (λ n. RoseBy n c.args.frames.now.reads c.turn_slot.new.frames.reads) more (subst (RoseBy (3 * c.loop-k.k + 3) c.args.frames.now.reads) (sym c.turn_slot.ensures.reads) rose),
+          );
       sound = λ s. c.turn_slot.ensures.sound c.ref_slot.ensures.sound;
     }
 
@@ -176,3 +189,29 @@ returns-in_err-turn_slot-clause-reads c is =
     c.turn_slot.ensures.reads ∙ ap (λ (m : Memory). m.reads) (c.ref_slot.ensures.reads (raws.raw at).shape shape)
     ∙ slot-free (view_of c.loop-k.frames t) c.loop-k.frames.reads at (raws.raw at).shape c.ref_slot.result (reference_place cs (raws.raw at).shape c.loop-k.k) is (c.ref_slot.ensures.slot (raws.raw at).shape shape)
     ∙ c.loop-k.invariant.reads is
+
+pub returns-in_default-clause-bounded : goal.returns-in_default-clause-bounded
+returns-in_default-clause-bounded c s raws done ok =
+    let cs = c.args.classes.now in
+    let at : ℕ = c.args.at.0 in
+    let shape = (object-held cs _ (turned_first cs raws done at c.loop-k.k) at (c.loop-k.invariant.held raws done ok) ok.has).has_shape in
+    let was = c.loop-k.invariant.bounded s raws done ok in
+    rose-more (3 * c.loop-k.k + 3) (raw_size cs raws at + 16) c.args.frames.now.reads c.ref_slot.new.frames.reads (omega (arith, was.0))
+    (slot-rose c.args.frames.now.reads c.loop-k.k at c.loop-k.frames c.ref_slot.new.frames (raws.raw at).shape c.ref_slot.result (c.loop-k.invariant.sound s) was.1
+    (c.ref_slot.ensures.reads (raws.raw at).shape shape))
+
+pub returns-in_err-turn_slot-clause-bounded : goal.returns-in_err-turn_slot-clause-bounded
+returns-in_err-turn_slot-clause-bounded c s raws done ok =
+    let cs = c.args.classes.now in
+    let at : ℕ = c.args.at.0 in
+    let shape = (object-held cs _ (turned_first cs raws done at c.loop-k.k) at (c.loop-k.invariant.held raws done ok) ok.has).has_shape in
+    let was = c.loop-k.invariant.bounded s raws done ok in
+    subst (RoseBy (raw_size cs raws at + 16) c.args.frames.now.reads) (sym c.turn_slot.ensures.reads)
+    (rose-more (3 * c.loop-k.k + 3) (raw_size cs raws at + 16) c.args.frames.now.reads c.ref_slot.new.frames.reads (omega (arith, was.0))
+    (slot-rose c.args.frames.now.reads c.loop-k.k at c.loop-k.frames c.ref_slot.new.frames (raws.raw at).shape c.ref_slot.result (c.loop-k.invariant.sound s) was.1
+    (c.ref_slot.ensures.reads (raws.raw at).shape shape)))
+
+pub returns-clause-bounded : goal.returns-clause-bounded
+returns-clause-bounded c s raws done ok =
+    let was = c.loop-k.invariant.bounded s raws done ok in
+    rose-more (3 * c.loop-k.k) (raw_size c.args.classes.now raws c.args.at.0 + 16) c.args.frames.now.reads c.loop-k.frames.reads (omega (arith, was.0)) was.1

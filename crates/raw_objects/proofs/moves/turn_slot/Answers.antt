@@ -1,7 +1,7 @@
-use Rattle.std.proofs.Common.{◌≡◌, ◌∙◌, ◌+◌, sym, ap, subst, rules, arith, pos}
+use Rattle.std.proofs.Common.{◌≡◌, ◌∙◌, ◌+◌, ℕ, IsTrue, sym, ap, subst, rules, arith, pos}
 use Rattle.class_layout.specs.declared.kind.Kind.TheVariants.{Ref}
 use Rattle.page_tables.specs.Address.{page_of}
-use Rattle.cow_pages.specs.Memory.{Memory}
+use Rattle.cow_pages.specs.Memory.{is_mapped, Memory}
 use Rattle.cow_pages.specs.View.{view_of}
 use Rattle.object_view.specs.Changes.{PutsNumber}
 use Rattle.object_view.specs.Values.{number_of}
@@ -10,6 +10,10 @@ use Rattle.raw_objects.specs.References.{goes, turned_where}
 use Rattle.raw_objects.proofs.Kept.{keeps-put, keeps-same, keeps-then}
 use Rattle.raw_objects.proofs.Turned.{one-turned, same-target}
 use Rattle.raw_objects.proofs.moves.turn_slot.Goals as goal
+
+-- what was mapped is mapped where nothing changed
+still-mapped : (old new : Memory) (t at : ℕ) → new ≡ old → IsTrue (is_mapped old t (page_of at)) → IsTrue (is_mapped new t (page_of (at + 0)))
+still-mapped old new t at same is = let e : at + 0 ≡ at = omega arith in subst (λ m. IsTrue (is_mapped m t (page_of (at + 0)))) (sym same) (subst (λ a. IsTrue (is_mapped old t (page_of a))) (sym e) is)
 
 pub returns-in_ok-store-clause-held : goal.returns-in_ok-store-clause-held
 returns-in_ok-store-clause-held c cs raws done h it =
@@ -32,13 +36,13 @@ returns-else-ne-clause-held c cs raws done h it =
 pub returns-in_ok-store-clause-keeps : goal.returns-in_ok-store-clause-keeps
 returns-in_ok-store-clause-keeps c may here =
     keeps-then c.args.frames.now c.goes_to-to.new.frames c.store.new.frames c.args.t.0 may (keeps-same c.args.frames.now c.goes_to-to.new.frames c.args.t.0 may c.goes_to-to.ensures.same)
-    (keeps-put c.store.result c.goes_to-to.new.frames c.store.new.frames c.args.t.0 _ _ _ _ may c.store.ensures.pages c.store.ensures.sound c.store.ensures.number c.store.ensures.written c.store.ensures.err
+    (keeps-put c.store.result c.goes_to-to.new.frames c.store.new.frames c.args.t.0 _ _ _ _ may c.store.ensures.pages c.store.ensures.sound (still-mapped c.args.frames.now c.goes_to-to.new.frames c.args.t.0 c.args.at.0 c.goes_to-to.ensures.same c.requires.mapped) c.store.ensures.number c.store.ensures.written c.store.ensures.err
     (let e : c.args.at.0 + 0 ≡ c.args.at.0 = omega arith in ap (λ b. may (page_of b)) e ∙ here))
 
 pub returns-in_err-store-clause-keeps : goal.returns-in_err-store-clause-keeps
 returns-in_err-store-clause-keeps c may here =
     keeps-then c.args.frames.now c.goes_to-to.new.frames c.store.new.frames c.args.t.0 may (keeps-same c.args.frames.now c.goes_to-to.new.frames c.args.t.0 may c.goes_to-to.ensures.same)
-    (keeps-put c.store.result c.goes_to-to.new.frames c.store.new.frames c.args.t.0 _ _ _ _ may c.store.ensures.pages c.store.ensures.sound c.store.ensures.number c.store.ensures.written c.store.ensures.err
+    (keeps-put c.store.result c.goes_to-to.new.frames c.store.new.frames c.args.t.0 _ _ _ _ may c.store.ensures.pages c.store.ensures.sound (still-mapped c.args.frames.now c.goes_to-to.new.frames c.args.t.0 c.args.at.0 c.goes_to-to.ensures.same c.requires.mapped) c.store.ensures.number c.store.ensures.written c.store.ensures.err
     (let e : c.args.at.0 + 0 ≡ c.args.at.0 = omega arith in ap (λ b. may (page_of b)) e ∙ here))
 
 pub returns-else-ne-clause-keeps : goal.returns-else-ne-clause-keeps

@@ -13,5 +13,5 @@ returns-clause-others c cs raws h free = raws-beside cs _ _ raws h c.args.at.0 _
 
 pub returns-clause-keeps : goal.returns-clause-keeps
 returns-clause-keeps c may covers =
-    keeps-words c.write_new.result c.args.frames.now c.write_new.new.frames c.args.t.0 c.args.at.0 _ may c.write_new.ensures.pages c.write_new.ensures.sound c.write_new.ensures.bytes.mapped
+    keeps-words c.write_new.result c.args.frames.now c.write_new.new.frames c.args.t.0 c.args.at.0 _ may c.write_new.ensures.pages c.write_new.ensures.sound c.requires.space c.write_new.ensures.bytes.mapped
     c.write_new.ensures.written c.write_new.ensures.partly covers

@@ -18,4 +18,4 @@ returns-clause-held c =
 
 pub returns-clause-keeps : goal.returns-clause-keeps
 returns-clause-keeps c may here =
-    keeps-put c.store.result c.args.frames.now c.store.new.frames c.args.t.0 _ _ _ _ may c.store.ensures.pages c.store.ensures.sound c.store.ensures.number c.store.ensures.written c.store.ensures.err here
+    keeps-put c.store.result c.args.frames.now c.store.new.frames c.args.t.0 _ _ _ _ may c.store.ensures.pages c.store.ensures.sound c.requires.mapped c.store.ensures.number c.store.ensures.written c.store.ensures.err here

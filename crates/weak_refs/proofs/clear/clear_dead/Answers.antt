@@ -96,7 +96,8 @@ loop-at-preserved g c =
           c.clear_slot.ensures.reads ∙ ap (reads_after c.loop-at.frames.reads) here
           ∙ ap (λ n. reads_after n (get_or (addresses slots) i 0)) c.loop-at.invariant.reads
           ∙ sym (reads-step m.reads (addresses slots) i below);
-      sound = λ some. c.clear_slot.ensures.sound;
+      sound = λ s. c.clear_slot.ensures.sound;
+      sound_after_some = λ some. c.clear_slot.ensures.sound;
     }
 
 pub returns-clause-others_seen : goal.returns-clause-others_seen

@@ -11,5 +11,6 @@ invariant-loop-at g l = record {
   cleared : ClearsSlots l.fn.frames l.frames l.t.0 (dead_in (g.K.KeepTest.keeps l.kept) (view_of l.fn.frames l.t.0) (take l.at-index (addresses l.slots)));
   count : l.count ≡ length (dead_in (g.K.KeepTest.keeps l.kept) (view_of l.fn.frames l.t.0) (take l.at-index (addresses l.slots)));
   reads : l.frames.reads ≡ reads_after_all l.fn.frames.reads (take l.at-index (addresses l.slots));
-  sound : 0 < l.at-index → IsSound l.frames;
+  sound : IsSound l.fn.frames → IsSound l.frames;
+  sound_after_some : 0 < l.at-index → IsSound l.frames;
 }
