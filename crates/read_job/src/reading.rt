@@ -43,7 +43,8 @@ fn take_and_tell<S: Source, W: Sink>(
 /// Reads a dump of at most 268,435,456 bytes from the source, at most 4,096 bytes at a time, and puts what is asked of it:
 /// its listing, or a shortest path from a root to an object. Where the input is no dump, the one line
 /// `not a dump: Hk at OFFSET` is put, which tells its first fault by the fault's number and offset. Nothing is put before
-/// the whole input was taken. The input is kept once, and besides it the dump's records, and for a path its graph.
+/// the whole input was taken. The input is kept once, until the dump's records are read, and then these, and for a path its
+/// graph.
 pub fn answer_input<S: Source, W: Sink>(
     alloc: Global,
     question: Question,
