@@ -75,6 +75,7 @@ fn shares_leaves(rt: HostRuntime) -> Result<(), Fail> {
     frames.drop_table(t);
     assert_eq!(rt; frames.leaves_used(), 2);
     assert_eq!(rt; frames.used(), 2);
+    frames.write_u8(u, Addr(0x2040_0000), 1)?;
     frames.release(u, PageNo(0x20400));
     assert_eq!(rt; frames.leaves_used(), 1);
     frames.map_zero(u, PageNo(0x9ffff))?;
@@ -90,13 +91,12 @@ fn shares_leaves(rt: HostRuntime) -> Result<(), Fail> {
 fn forks_many_times(rt: HostRuntime) -> Result<(), Fail> {
     let mut frames = Frames::new(rt.alloc());
     let t = frames.new_table()?;
-    for i in 0..16384 {
-        frames.map_zero(t, PageNo(0x20000 + i))?;
+    map_run(&mut frames, t, PAGE, 16384)?;
+    frames.settle(t);
+    for _ in 0..999 {
+        frames.fork_table(t)?;
     }
-    let mut last = t;
-    for _i in 0..1000 {
-        last = frames.fork_table(t)?;
-    }
+    let last = frames.fork_table(t)?;
     frames.write_u8(last, AT, 1)?;
     assert_eq!(rt; frames.read_u8(last, AT), 1);
     assert_eq!(rt; frames.read_u8(t, AT), 0);

@@ -55,3 +55,8 @@ pub read_u32-requires-5-clause-mapped : goal.read_u32-requires-5-clause-mapped
 read_u32-requires-5-clause-mapped g c =
     let there : IsTrue (is_mapped c.clear_dead.new.frames c.in_ok-t.t.0 0x20000) = (c.in_ok-clear_dead.ensures.cleared.bytes.mapped 0x20000ffc ∙ c.in_ok-write_u32-4.ensures.view.mapped 0x20000ffc ∙ c.in_ok-write_u32-3.ensures.view.mapped 0x20000ffc ∙ c.in_ok-write_u32-2.ensures.view.mapped 0x20000ffc ∙ c.in_ok-write_u32.ensures.view.mapped 0x20000ffc ∙ c.in_ok-map_zero-2.ensures.view.mapped 0x20000ffc refl) in
     subst (λ (n : Memory). IsTrue (is_mapped n c.in_ok-t.t.0 0x20000)) (sym c.read_u32-4.ensures.counts) (subst (λ (n : Memory). IsTrue (is_mapped n c.in_ok-t.t.0 0x20000)) (sym c.read_u32-3.ensures.counts) (subst (λ (n : Memory). IsTrue (is_mapped n c.in_ok-t.t.0 0x20000)) (sym c.read_u32-2.ensures.counts) (subst (λ (n : Memory). IsTrue (is_mapped n c.in_ok-t.t.0 0x20000)) (sym c.read_u32.ensures.counts) (there))))
+
+pub clear_dead-requires-clause-live : goal.clear_dead-requires-clause-live
+clear_dead-requires-clause-live g c =
+    let t = c.in_ok-t.t.0 in
+    c.in_ok-write_u32-4.ensures.page.rest.live t ∙ c.in_ok-write_u32-3.ensures.page.rest.live t ∙ c.in_ok-write_u32-2.ensures.page.rest.live t ∙ c.in_ok-write_u32.ensures.page.rest.live t ∙ c.in_ok-map_zero-2.ensures.rest.live t ∙ c.in_ok-map_zero.ensures.rest.live t ∙ c.in_ok-t.ensures.live

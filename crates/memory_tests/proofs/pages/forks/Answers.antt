@@ -1,0 +1,18 @@
+use Rattle.std.proofs.Common.{◌∙◌, ap}
+use Rattle.cow_pages.specs.Memory.{Memory, is_live}
+use Rattle.memory_tests.proofs.Memories.{joined-apart}
+use Rattle.memory_tests.proofs.pages.forks.Goals as goal
+
+pub written-requires : goal.written-requires
+written-requires g c =
+    let t = c.in_ok-t.t.0 in
+    let u = c.in_ok-u.u.0 in
+    let apart = joined-apart c.settle.new.self t u c.settle.ensures.live c.in_ok-u.ensures.fresh in
+    ap (λ (m : Memory). is_live m t) c.read_u32-2.ensures.counts ∙ ap (λ (m : Memory). is_live m t) c.read_u32.ensures.counts ∙ c.in_ok-write_u32-2.ensures.page.rest.live t ∙ c.in_ok-u.ensures.rest.live t apart ∙ c.settle.ensures.live
+
+pub drop_table-requires : goal.drop_table-requires
+drop_table-requires g c =
+    let t = c.in_ok-t.t.0 in
+    let u = c.in_ok-u.u.0 in
+    let apart = joined-apart c.settle.new.self t u c.settle.ensures.live c.in_ok-u.ensures.fresh in
+    ap (λ (m : Memory). is_live m t) c.read_u32-2.ensures.counts ∙ ap (λ (m : Memory). is_live m t) c.read_u32.ensures.counts ∙ c.in_ok-write_u32-2.ensures.page.rest.live t ∙ c.in_ok-u.ensures.rest.live t apart ∙ c.settle.ensures.live
