@@ -1,3 +1,4 @@
+pub mod FoundLemmas
 pub mod LawLemmas
 pub mod PageLemmas
 pub mod RowLemmas
