@@ -1,4 +1,3 @@
-pub mod FoundLemmas
 pub mod LawLemmas
 pub mod PageLemmas
 pub mod RowLemmas

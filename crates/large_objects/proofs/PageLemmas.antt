@@ -201,10 +201,10 @@ rows-lost old new t rows m = record {
 pub rows-others : (old new : Memory) (t : ℕ) (rows : List LargeRow) → ReleasesRows old new t rows → OthersSeen old new t
 rows-others old new t rows m u apart = SameView-pages old new u u (λ q. m.others u q (inl apart))
 
--- a page of some row is a page of one that stays or of one that goes
-pub any-split : (p : ℕ) (rows : List LargeRow) → list_any (holds_page p) rows ≡ (list_any (holds_page p) (filter stays rows) || list_any (holds_page p) (dead rows))
-any-split p [] = refl
-any-split p (row ∷ rest) = by (stays row) (any-split p rest)
+-- a page of some row is a page of one that is kept or of one that isn't
+pub any-split : (keep : LargeRow → Bool) (p : ℕ) (rows : List LargeRow) → list_any (holds_page p) rows ≡ (list_any (holds_page p) (filter keep rows) || list_any (holds_page p) (filter (λ (it : LargeRow). not (keep it)) rows))
+any-split keep p [] = refl
+any-split keep p (row ∷ rest) = by (keep row) (any-split keep p rest)
   where
     or-swap : (a b c : Bool) → (a || (b || c)) ≡ (b || (a || c))
     or-swap true true c = refl
@@ -215,10 +215,10 @@ any-split p (row ∷ rest) = by (stays row) (any-split p rest)
     or-join true b c = refl
     or-join false b c = refl
 
-    by : (b : Bool) → list_any (holds_page p) rest ≡ (list_any (holds_page p) (filter stays rest) || list_any (holds_page p) (dead rest))
-        → (holds_page p row || list_any (holds_page p) rest) ≡ (list_any (holds_page p) (cond b (row ∷ filter stays rest) (filter stays rest)) || list_any (holds_page p) (cond (not b) (row ∷ dead rest) (dead rest)))
-    by true later = ap (λ b. holds_page p row || b) later ∙ or-join (holds_page p row) (list_any (holds_page p) (filter stays rest)) (list_any (holds_page p) (dead rest))
-    by false later = ap (λ b. holds_page p row || b) later ∙ or-swap (holds_page p row) (list_any (holds_page p) (filter stays rest)) (list_any (holds_page p) (dead rest))
+    by : (b : Bool) → list_any (holds_page p) rest ≡ (list_any (holds_page p) (filter keep rest) || list_any (holds_page p) (filter (λ (it : LargeRow). not (keep it)) rest))
+        → (holds_page p row || list_any (holds_page p) rest) ≡ (list_any (holds_page p) (cond b (row ∷ filter keep rest) (filter keep rest)) || list_any (holds_page p) (cond (not b) (row ∷ filter (λ (it : LargeRow). not (keep it)) rest) (filter (λ (it : LargeRow). not (keep it)) rest)))
+    by true later = ap (λ b. holds_page p row || b) later ∙ or-join (holds_page p row) (list_any (holds_page p) (filter keep rest)) (list_any (holds_page p) (filter (λ (it : LargeRow). not (keep it)) rest))
+    by false later = ap (λ b. holds_page p row || b) later ∙ or-swap (holds_page p row) (list_any (holds_page p) (filter keep rest)) (list_any (holds_page p) (filter (λ (it : LargeRow). not (keep it)) rest))
 
 -- rows of other slots by their slots
 pub slots-apart : (slot : ℕ) (rows : List LargeRow) → AllByRecursion (λ y. nat_eq slot y ≡ false) (slots rows) → All (λ (it : LargeRow). it.slot ≢ slot) rows
@@ -226,10 +226,10 @@ slots-apart slot [] all k d below same = omega (arith, below)
 slots-apart slot (row ∷ rest) all zero d below same = eqb-false slot row.slot all.0 (sym same)
 slots-apart slot (row ∷ rest) all (suc k) d below same = slots-apart slot rest all.1 k d (omega (arith, below)) same
 
--- the rows of a page either all stay or all go
-pub one-side : (p : ℕ) (rows : List LargeRow) → IsDistinct nat_eq (slots rows) → All (λ (it : LargeRow). IsBytes it.bytes) rows → list_any (holds_page p) (dead rows) ≡ true → list_any (holds_page p) (filter stays rows) ≡ false
-one-side p [] d bytes gone = refl
-one-side p (row ∷ rest) d bytes gone = by (stays row) gone (cases_Bool (holds_page p row)) (λ later. one-side p rest (IsDistinct-tail nat_eq row.slot (slots rest) d) others later)
+-- the rows of a page are either all kept or none
+pub one-side : (keep : LargeRow → Bool) (p : ℕ) (rows : List LargeRow) → IsDistinct nat_eq (slots rows) → All (λ (it : LargeRow). IsBytes it.bytes) rows → list_any (holds_page p) (filter (λ (it : LargeRow). not (keep it)) rows) ≡ true → list_any (holds_page p) (filter keep rows) ≡ false
+one-side keep p [] d bytes gone = refl
+one-side keep p (row ∷ rest) d bytes gone = by (keep row) gone (cases_Bool (holds_page p row)) (λ later. one-side keep p rest (IsDistinct-tail nat_eq row.slot (slots rest) d) others later)
   where
     others : All (λ (it : LargeRow). IsBytes it.bytes) rest
     others k it below = bytes (suc k) it (omega (arith, below))
@@ -238,21 +238,21 @@ one-side p (row ∷ rest) d bytes gone = by (stays row) gone (cases_Bool (holds_
     apart = slots-apart row.slot rest (IsDistinct-head nat_eq row.slot (slots rest) d)
 
     -- if this row holds the page, no later one does
-    no-later : (keep : LargeRow → Bool) → holds_page p row ≡ true → list_any (holds_page p) (filter keep rest) ≡ false
-    no-later keep here =
-        none-holds p row (filter keep rest) (All-filter keep (λ (it : LargeRow). IsBytes it.bytes) rest others) (bytes 0 row (omega arith))
-        (All-filter keep (λ (it : LargeRow). it.slot ≢ row.slot) rest apart) here
+    no-later : (some : LargeRow → Bool) → holds_page p row ≡ true → list_any (holds_page p) (filter some rest) ≡ false
+    no-later some here =
+        none-holds p row (filter some rest) (All-filter some (λ (it : LargeRow). IsBytes it.bytes) rest others) (bytes 0 row (omega arith))
+        (All-filter some (λ (it : LargeRow). it.slot ≢ row.slot) rest apart) here
 
     drop-first : (c : Bool) → c ≡ false → (b : Bool) → (c || b) ≡ true → b ≡ true
     drop-first true is b h = absurd (true≢false is)
     drop-first false is b h = h
 
-    by : (b : Bool) → list_any (holds_page p) (cond (not b) (row ∷ dead rest) (dead rest)) ≡ true → (holds_page p row ≡ true) ⊎ (holds_page p row ≡ false)
-        → (list_any (holds_page p) (dead rest) ≡ true → list_any (holds_page p) (filter stays rest) ≡ false) → list_any (holds_page p) (cond b (row ∷ filter stays rest) (filter stays rest)) ≡ false
-    by true h (inl here) later = absurd (true≢false (sym h ∙ no-later goes here))
-    by true h (inr none) later = or_from (holds_page p row) (list_any (holds_page p) (filter stays rest)) none (later h)
-    by false h (inl here) later = no-later stays here
-    by false h (inr none) later = later (drop-first (holds_page p row) none (list_any (holds_page p) (dead rest)) h)
+    by : (b : Bool) → list_any (holds_page p) (cond (not b) (row ∷ filter (λ (it : LargeRow). not (keep it)) rest) (filter (λ (it : LargeRow). not (keep it)) rest)) ≡ true → (holds_page p row ≡ true) ⊎ (holds_page p row ≡ false)
+        → (list_any (holds_page p) (filter (λ (it : LargeRow). not (keep it)) rest) ≡ true → list_any (holds_page p) (filter keep rest) ≡ false) → list_any (holds_page p) (cond b (row ∷ filter keep rest) (filter keep rest)) ≡ false
+    by true h (inl here) later = absurd (true≢false (sym h ∙ no-later (λ (it : LargeRow). not (keep it)) here))
+    by true h (inr none) later = or_from (holds_page p row) (list_any (holds_page p) (filter keep rest)) none (later h)
+    by false h (inl here) later = no-later keep here
+    by false h (inr none) later = later (drop-first (holds_page p row) none (list_any (holds_page p) (filter (λ (it : LargeRow). not (keep it)) rest)) h)
 
 -- a change that keeps slots and bytes keeps the pages
 pub any-kept : (f : LargeRow → LargeRow) → KeepsSlots f → (p : ℕ) (rows : List LargeRow) → list_any (holds_page p) (map f rows) ≡ list_any (holds_page p) rows
@@ -273,7 +273,7 @@ any-in-window p (row ∷ rest) within bytes h = elim (or_cases (holds_page p row
 
 pub dead-mapped : (m : Memory) (t : ℕ) (rows : List LargeRow) → AreRows rows → HasPages m t rows → AreMapped m t (dead rows)
 dead-mapped m t rows a has p gone =
-    let some : list_any (holds_page p) rows ≡ true = any-split p rows ∙ or_right (list_any (holds_page p) (filter stays rows)) (list_any (holds_page p) (dead rows)) gone in
+    let some : list_any (holds_page p) rows ≡ true = any-split stays p rows ∙ or_right (list_any (holds_page p) (filter stays rows)) (list_any (holds_page p) (dead rows)) gone in
     has p (any-in-window p rows a.within a.bytes some) ∙ some
 
 pub pages-swept : (old new : Memory) (t : ℕ) (rows : List LargeRow) → AreRows rows → HasPages old t rows → ReleasesRows old new t (dead rows) → HasPages new t (swept rows)
@@ -284,7 +284,7 @@ pages-swept old new t rows a has m p window = by (cases_Bool (list_any (holds_pa
     or-none false c is = is
 
     by : (list_any (holds_page p) (dead rows) ≡ true) ⊎ (list_any (holds_page p) (dead rows) ≡ false) → is_mapped new t p ≡ list_any (holds_page p) (swept rows)
-    by (inl gone) = ap is_some (m.gone p gone) ∙ sym (any-kept cleared keeps-cleared p (filter stays rows) ∙ one-side p rows a.apart a.bytes gone)
+    by (inl gone) = ap is_some (m.gone p gone) ∙ sym (any-kept cleared keeps-cleared p (filter stays rows) ∙ one-side stays p rows a.apart a.bytes gone)
     by (inr none) =
-        ap is_some (m.others t p (inr none)) ∙ has p window ∙ any-split p rows ∙ or-none (list_any (holds_page p) (filter stays rows)) (list_any (holds_page p) (dead rows)) none
+        ap is_some (m.others t p (inr none)) ∙ has p window ∙ any-split stays p rows ∙ or-none (list_any (holds_page p) (filter stays rows)) (list_any (holds_page p) (dead rows)) none
         ∙ sym (any-kept cleared keeps-cleared p (filter stays rows))

@@ -58,6 +58,10 @@ marked_at at row = if slot_base row.slot == at then record row { marked = true }
 abbrev pub promoted_row : LargeRow → LargeRow
 promoted_row row = record row { promoted = true }
 
+-- no fork has promoted a row's object yet
+abbrev pub waits : LargeRow → Bool
+waits row = not row.promoted
+
 -- a sweep keeps a row that is promoted or marked
 abbrev pub stays : LargeRow → Bool
 stays row = row.promoted || row.marked

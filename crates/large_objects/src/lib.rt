@@ -8,7 +8,7 @@ mod table;
 
 pub use larges::Larges;
 pub use laws::{
-    marks_keep_pages, new_tables_fit, objects_are_found_by_slots, objects_cost_a_region,
-    pages_are_counted,
+    marks_keep_pages, new_tables_fit, pages_are_counted, pages_are_of_rows, rows_are_found,
+    rows_cost_at_least_one, written_pages_are_counted,
 };
 pub use rows::LargeRow;
