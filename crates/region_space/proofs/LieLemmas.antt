@@ -1,7 +1,7 @@
 -- The object that was placed, among those of the other rows.
-use Rattle.std.proofs.Common.{◌≡◌, ◌≢◌, ◌∙◌, ℕ, ◌+◌, ◌-◌, ◌<◌, ◌≤◌, Bool, true, false, List, [], ◌∷◌, ◌++◌, map, All, nat_eq, nat_le, nat_lt, Option, Some, None, true≢false, refl, sym, ap, subst, inl, inr, arith}
-use Rattle.std.specs.Prelude.{◌⊎◌, ◌&&◌, ◌||◌, if◌then◌else◌, IsTrue}
-use Rattle.std.proofs.lemmas.Bool.{and_from, and_parts, cases_Bool, cases_eq, cases_lt, false≢true, le-leb, leb-true, lt-ltb, ltb-true, or_left, or_right}
+use Rattle.std.proofs.Common.{◌≡◌, ◌≢◌, ◌∙◌, ℕ, ◌+◌, ◌-◌, ◌<◌, ◌≤◌, Bool, true, false, List, [], ◌∷◌, ◌++◌, map, All, nat_le, nat_lt, Option, Some, None, true≢false, refl, sym, ap, subst, inl, inr, arith}
+use Rattle.std.specs.Prelude.{◌⊎◌, ◌||◌, if◌then◌else◌}
+use Rattle.std.proofs.lemmas.Bool.{and_from, and_parts, cases_Bool, cases_lt, false≢true, le-leb, leb-true, ltb-true, or_left, or_right}
 use Rattle.std.proofs.lemmas.List.{map-append}
 use Rattle.std.proofs.lemmas.List.Elements.{All-head, All-tail}
 use Rattle.std.proofs.lemmas.List.Folds.{list_any-append}
@@ -11,15 +11,13 @@ use Rattle.model_numbers.specs.Numbers.{region_bytes}
 use Rattle.page_tables.specs.declared.address.Window.TheVariants.{Regions}
 use Rattle.page_tables.specs.Address.{is_in, page_of}
 use Rattle.cow_pages.specs.Memory.{Memory, is_mapped}
-use Rattle.image_space.specs.Space.{pages_up_to}
-use Rattle.page_runs.specs.Runs.{IsInRun}
 use Rattle.region_lists.specs.Rows.{Lists, Row, last_of, with_last}
 use Rattle.region_lists.proofs.MoveLemmas.{all-left}
-use Rattle.region_space.specs.Pages.{IsObjectIn, covers, lies_in, page_sum}
-use Rattle.region_space.specs.Space.{HasPages, IsFilled, IsSize, IsSpace, Places, base_of, fill_if, filled, further_pages, has_room, holds_page, row_pages, spot_if, spot_in, with_object, with_object_if}
+use Rattle.region_space.specs.Pages.{IsObjectIn, covers, lies_in}
+use Rattle.region_space.specs.Space.{HasPages, IsFilled, IsSize, IsSpace, Places, base_of, fill_if, filled, has_room, holds_page, spot_if, spot_in, with_object, with_object_if}
 use Rattle.region_space.proofs.DropLemmas.{run-held}
-use Rattle.region_space.proofs.PageLemmas.{filled-is, holds-more, inside, is_run, run_from, run_length, sum-more}
-use Rattle.region_space.proofs.RoomLemmas.{AreBehind, Fits, Opens, behind, home-most, room-cases}
+use Rattle.region_space.proofs.PageLemmas.{filled-is, holds-more, inside, is_run, run_from, run_length}
+use Rattle.region_space.proofs.RoomLemmas.{Fits, Opens, behind, home-most, room-cases}
 use Rattle.region_space.proofs.WalkLemmas.{all-regions, any-here}
 
 -- WHERE IT STANDS

@@ -1,5 +1,5 @@
 -- How many pages and regions objects have, packed one after the other.
-use Rattle.std.proofs.Common.{◌≡◌, ◌∙◌, ℕ, ◌+◌, ◌-◌, ◌<◌, ◌≤◌, Bool, true, false, List, [], ◌∷◌, ◌++◌, map, All, nat_eq, refl, sym, ap, arith}
+use Rattle.std.proofs.Common.{◌≡◌, ◌∙◌, ℕ, ◌+◌, ◌-◌, ◌≤◌, Bool, true, false, List, [], ◌∷◌, ◌++◌, map, All, nat_eq, refl, sym, ap, arith}
 use Rattle.std.specs.Prelude.{◌/◌, sum}
 use Rattle.std.proofs.lemmas.List.{append-nil}
 use Rattle.std.proofs.lemmas.List.Sums.{sum_by-cons}
@@ -10,7 +10,7 @@ use Rattle.image_space.specs.Space.{pages_up_to}
 use Rattle.region_lists.specs.Rows.{Row}
 use Rattle.region_space.specs.Packed.{Pack, fills_from, packed_pages}
 use Rattle.region_space.specs.Pages.{page_sum}
-use Rattle.region_space.specs.Space.{IsSize, further_pages, row_pages, with_object}
+use Rattle.region_space.specs.Space.{IsSize, further_pages, with_object}
 use Rattle.region_space.proofs.LieLemmas.{home}
 use Rattle.region_space.proofs.PackLemmas.{begins, end-more, heads, splits}
 use Rattle.region_space.proofs.PageLemmas.{page_sum-cons, run_length, sum-more}
