@@ -9,7 +9,7 @@ ghost use Rattle.heap_graph.specs.Sizes.{parts_for};
 ghost use Rattle.region_lists.specs.Rows.{Lists, Row};
 ghost use Rattle.region_space.specs.Packed.{Pack, packed_pages};
 ghost use Rattle.region_space.specs.Pages.{IsObjectIn, covers, page_sum};
-ghost use Rattle.region_space.specs.Space.{HasPages, IsFilled, IsSize, IsSpace, Places, filled, further_pages, holds_page, with_object};
+ghost use Rattle.region_space.specs.Space.{HasPages, IsSize, IsSpace, Places, filled, further_pages, holds_page, with_object};
 
 /// An object that was placed lies in a row in use, beside each object that stood in a row before, in use or from. Each byte
 /// of an object in a row lies in a mapped page.
@@ -32,7 +32,7 @@ pub fn pages_are_of_objects()
 /// pages than were mapped for all. So the pages of the copies have to be counted over the sizes that are kept.
 pub fn packings_have_pages()
     ensures rows { (rows : List Row) (sizes : List ℕ) → Pack rows sizes → page_sum rows ≡ packed_pages sizes }
-    ensures step { (rows : List Row) (region size : ℕ) → All IsFilled rows → IsSize size → page_sum (with_object rows region size) ≡ page_sum rows + further_pages rows size }
+    ensures step { (rows : List Row) (region size : ℕ) → page_sum (with_object rows region size) ≡ page_sum rows + further_pages rows size }
     ensures before { (before more : List ℕ) → All IsSize before → packed_pages before ≤ packed_pages (before ++ more) }
     ensures used { (before more : List ℕ) → parts_for region_bytes (end_from 0 before) ≤ parts_for region_bytes (end_from 0 (before ++ more)) }
 {}

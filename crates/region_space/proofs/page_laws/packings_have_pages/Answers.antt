@@ -5,7 +5,7 @@ pub returns-clause-rows : goal.returns-clause-rows
 returns-clause-rows c = λ rows sizes pack. packed-rows rows sizes pack
 
 pub returns-clause-step : goal.returns-clause-step
-returns-clause-step c = λ rows region size filled is. packed-step rows region size
+returns-clause-step c = λ rows region size. packed-step rows region size
 
 pub returns-clause-before : goal.returns-clause-before
 returns-clause-before c = λ before more sizes. packed-before before more sizes
