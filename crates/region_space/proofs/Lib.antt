@@ -4,3 +4,5 @@ pub mod RoomLemmas
 pub mod PageLemmas
 pub mod DropLemmas
 pub mod CountLemmas
+pub mod LieLemmas
+pub mod PackedLemmas

@@ -267,7 +267,7 @@ walk-last rows before size filled apart sizes pack =
     ∙ ap (λ (b : Bool). if b then Some (at + size) else start_of (first_of w.rest)) (le-ltb (at + size) (base_of w.row.region + st.fill) (omega (arith, w.address)))
     ∙ none-left w.rest w.rest_is
 
-any-here : (test : Row → Bool) (before : List Row) (row : Row) (rest : List Row) → test row ≡ true → list_any test (before ++ row ∷ rest) ≡ true
+pub any-here : (test : Row → Bool) (before : List Row) (row : Row) (rest : List Row) → test row ≡ true → list_any test (before ++ row ∷ rest) ≡ true
 any-here test [] row rest here = or_left (test row) (list_any test rest) here
 any-here test (one ∷ before) row rest here = or_right (test one) (list_any test (before ++ row ∷ rest)) (any-here test before row rest here)
 

@@ -1,8 +1,9 @@
 -- How rows hold objects by the rule of packing: which object stands where, counted by bytes from the first region on.
-use Rattle.std.specs.Prelude.{◌≡◌, ℕ, ◌+◌, ◌*◌, ◌/◌, ◌%◌, List, [], ◌∷◌, length, map, Option, None, Some, if◌then◌else◌, nat_le, slice_index_or}
+use Rattle.std.specs.Prelude.{◌≡◌, ℕ, ◌+◌, ◌-◌, ◌*◌, ◌/◌, ◌%◌, List, [], ◌∷◌, length, map, sum, Option, None, Some, if◌then◌else◌, nat_le, slice_index_or}
 use Rattle.model_numbers.specs.Numbers.{region_bytes}
 use Rattle.heap_graph.specs.Packing.{end_from}
 use Rattle.heap_graph.specs.Sizes.{parts_for}
+use Rattle.image_space.specs.Space.{pages_up_to}
 use Rattle.region_lists.specs.Rows.{Row, last_of}
 use Rattle.region_space.specs.Space.{base_of}
 
@@ -36,3 +37,8 @@ pub record Pack (rows : List Row) (sizes : List ℕ) : Type 0 where
   pub used : length rows ≡ parts_for region_bytes (end_from 0 sizes)
   -- as if behind a region that is full
   pub fills : region_bytes ∷ map (λ row. row.fill) rows ≡ fills_from region_bytes sizes
+
+-- how many pages hold bytes of objects of these sizes, packed from 0 on; 64 are those of the full region that the fills begin
+-- with
+abbrev pub packed_pages : List ℕ → ℕ
+packed_pages sizes = sum (map pages_up_to (fills_from region_bytes sizes)) - 64
