@@ -6,7 +6,7 @@ use Rattle.std.proofs.lemmas.Bool.{cases_eq, cases_lt}
 use Rattle.sharers.specs.Shares.{Shares, AreTallied, count_of}
 use Rattle.page_tables.specs.Grid.{one, one_held, held}
 use Rattle.page_tables.specs.declared.leaf.Entry.{Entry}
-use Rattle.page_tables.specs.declared.leaf.Leaf.{Leaf}
+use Rattle.page_tables.specs.Leaf.{Leaf}
 use Rattle.cow_pages.specs.declared.store.Store.{Store}
 use Rattle.cow_pages.specs.Store.{Row, frame_key, leaf_key, leaf_grid}
 use Rattle.cow_pages.specs.Steps.{SharesSome, UnsharesSome, SharesLeaves}

@@ -7,12 +7,11 @@ use Rattle.std.proofs.lemmas.Option.{none-some}
 use Rattle.sharers.specs.Shares.{Shares, AreTallied, count_of}
 use Rattle.page_tables.specs.declared.frame.Frame.{Frame}
 use Rattle.page_tables.specs.declared.leaf.Entry.{Entry}
-use Rattle.page_tables.specs.declared.leaf.Leaf.{Leaf}
 use Rattle.page_tables.specs.declared.table.Table.{Table}
 use Rattle.cow_pages.specs.declared.store.Store.{Store}
 use Rattle.cow_pages.specs.Memory.{is_live, leaf_in, used_leaves}
 use Rattle.cow_pages.specs.Change.{ChangesTable, FreesFrames, OtherLeaves}
-use Rattle.page_tables.specs.Leaf.{no_leaf, present}
+use Rattle.page_tables.specs.Leaf.{Leaf, no_leaf, present}
 use Rattle.page_tables.specs.Counts.{count_in}
 use Rattle.page_tables.specs.Tables.{mapped_from, written_from}
 use Rattle.page_tables.specs.Grid.{cell, held, one_held}

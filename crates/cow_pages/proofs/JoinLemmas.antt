@@ -5,12 +5,11 @@ use Rattle.std.proofs.lemmas.List.{length-append, length-replicate, length-map, 
 use Rattle.sharers.specs.Shares.{Shares, AreTallied, count_of}
 use Rattle.page_tables.specs.declared.frame.Frame.{Frame}
 use Rattle.page_tables.specs.declared.leaf.Entry.{Entry}
-use Rattle.page_tables.specs.declared.leaf.Leaf.{Leaf}
 use Rattle.page_tables.specs.declared.table.Table.{Table}
 use Rattle.cow_pages.specs.declared.store.Store.{Store}
 use Rattle.cow_pages.specs.Memory.{Memory, Table as Pages}
 use Rattle.page_tables.specs.Frame.{zero_frame, frame_bytes}
-use Rattle.page_tables.specs.Leaf.{no_leaf, present}
+use Rattle.page_tables.specs.Leaf.{Leaf, no_leaf, present}
 use Rattle.page_tables.specs.Grid.{cell, all_held}
 use Rattle.cow_pages.specs.Store.{Row, row_of, frame_key, leaf_key, leaf_grid, table_grid, bytes_of, frame_sharers, leaf_sharers, pages_kept, place_at, entry_in, entry_at, flat, page_of_entry, pages_from, shown_table, shown, CountsSlots, IsKept, HasRoom, IsStore}
 use Rattle.cow_pages.specs.Steps.{SameEntries, AddsRoom}

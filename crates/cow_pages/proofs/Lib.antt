@@ -26,3 +26,4 @@ pub mod JoinLemmas
 pub mod TableLemmas
 pub mod SettleLemmas
 pub mod EndLemmas
+pub mod PartLemmas

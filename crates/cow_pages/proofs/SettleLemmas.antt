@@ -6,13 +6,12 @@ use Rattle.std.proofs.lemmas.Bool.{cases_eq, cases_lt}
 use Rattle.std.proofs.lemmas.Option.{none-some, same_Some}
 use Rattle.sharers.specs.Shares.{Shares, count_of}
 use Rattle.page_tables.specs.declared.leaf.Entry.{Entry}
-use Rattle.page_tables.specs.declared.leaf.Leaf.{Leaf}
 use Rattle.page_tables.specs.declared.table.Table.{Table}
 use Rattle.cow_pages.specs.declared.store.Store.{Store}
 use Rattle.cow_pages.specs.Memory.{Page, page_at, is_live, used_leaves, distinct_count, leaves_of}
 use Rattle.cow_pages.specs.Change.{ChangesTable, KeepsRoom, SameLeaves, settled}
 use Rattle.page_tables.specs.Counts.{count_in}
-use Rattle.page_tables.specs.Leaf.{cleared}
+use Rattle.page_tables.specs.Leaf.{Leaf, cleared}
 use Rattle.page_tables.specs.Tables.{mapped_from, written_from}
 use Rattle.page_tables.specs.Grid.{cell, held}
 use Rattle.cow_pages.specs.Store.{Row, frame_key, leaf_grid, table_grid, table_entries, bytes_of, frame_sharers, leaf_sharers, pages_kept, place_at, entry_in, entry_at, page_of_entry, mapped_counts, written_counts, mapped_kept, written_kept, shown, CountsSlots, IsCounted, HasPages, IsKept, IsStore}

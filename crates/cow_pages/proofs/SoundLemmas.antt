@@ -1,6 +1,6 @@
 -- What holds of the memory that a store shows.
 use Rattle.std.proofs.Common.{◌≡◌, ◌≢◌, ℕ, zero, suc, ◌+◌, ◌<◌, ◌≤◌, ◌*◌, ◌/◌, ◌%◌, Bool, true, false, cond, List, [], ◌∷◌, length, get_or, Some, None, Option, count_by, is_some, IsTrue, refl, sym, ap, subst, ◌∙◌, inl, inr, arith, eqb, zero-add, add-zero, true≢false}
-use Rattle.std.specs.Prelude.{◌-◌, option_map, min, All}
+use Rattle.std.specs.Prelude.{◌-◌, ◌^◌, option_map, min, All}
 use Rattle.std.proofs.lemmas.List.{length-map}
 use Rattle.std.proofs.lemmas.Bool.{cases_eq, cases_lt, eq-eqb, ne_eqb, cond-true, cond-false}
 use Rattle.std.proofs.lemmas.Nat.{div-mul-add, mod_below}
@@ -16,7 +16,7 @@ use Rattle.cow_pages.proofs.HolderLemmas.{holders, count-step, holders-yes, hold
 use Rattle.cow_pages.proofs.CountLemmas.{count-within}
 use Rattle.page_tables.proofs.GridLemmas.{one-yes, one-no, cell-column}
 use Rattle.page_tables.proofs.LeafLemmas.{present-found}
-use Rattle.page_tables.specs.declared.leaf.Leaf.{Leaf}
+use Rattle.page_tables.specs.Leaf.{Leaf}
 use Rattle.cow_pages.proofs.SharedLemmas.{leaf_held, leaf_within, leaf_length, frame_held, frame_used, stands, entry_put}
 use Rattle.cow_pages.proofs.ShownLemmas.{page_at-shown, frame-shown, framed, table_of-shown, RisesFrom-pages, one_sharer}
 
@@ -39,6 +39,13 @@ frame_within s f room some = omega (arith, count-within s.frame_counts f (omega 
 
 pub entry_within : (s : Store) → IsKept s → HasRoom s → (t p : ℕ) (e : Entry) → entry_at s t p ≡ Some e → e.frame < length s.frames.items
 entry_within s kept room t p e is = frame_within s e.frame room (frame_held s kept.counts t p e is)
+
+-- so its number fits a slot
+pub frame_fits : (s : Store) → HasRoom s → (f : ℕ) → f < length s.frames.items → f < 2 ^ 32 - 1
+frame_fits s room f within = omega (arith, within, room.frames, room.frames_tallied.few)
+
+pub entry_fits : (s : Store) → IsKept s → HasRoom s → (t p : ℕ) (e : Entry) → entry_at s t p ≡ Some e → e.frame < 2 ^ 32 - 1
+entry_fits s kept room t p e is = frame_fits s room e.frame (entry_within s kept room t p e is)
 
 -- a leaf in a place is one of the leaves
 pub leaf_there : (s : Store) → IsKept s → (t i l : ℕ) → place_at s t i ≡ Some l → l < length s.leaves.items

@@ -186,7 +186,7 @@ pub adds_no_row : (s new : Store) (u : ℕ) (table : Table) → AddsTable s new 
 adds_no_row s new u table adds = get_or-map row_of s.tables.items u None [] adds.within ∙ ap row_of adds.fresh
 
 pub adds_leaves : (s new : Store) (u : ℕ) (table : Table) → Adds s new u table → leaf_grid new ≡ leaf_grid s
-adds_leaves s new u table a = ap (λ (it : Rattle.std.specs.declared.vec.Vec.Vec Rattle.page_tables.specs.declared.leaf.Leaf.Leaf Rattle.std.specs.declared.alloc.Global.Global). map (λ (it : Rattle.page_tables.specs.declared.leaf.Leaf.Leaf). it.entries) it.items) a.leaves
+adds_leaves s new u table a = ap (λ (it : Rattle.std.specs.declared.vec.Vec.Vec Rattle.page_tables.specs.Leaf.Leaf Rattle.std.specs.declared.alloc.Global.Global). map (λ (it : Rattle.page_tables.specs.Leaf.Leaf). it.entries) it.items) a.leaves
 
 pub adds_keeps : (s new : Store) (u : ℕ) (table : Table) → Adds s new u table → KeepsLeaves s new
 adds_keeps s new u table a = record { leaves = adds_leaves s new u table a; sharers = λ f. ap (λ (it : Shares). count_of it f) a.frame_counts }
@@ -248,7 +248,7 @@ pub adds_store : (s new : Store) (u : ℕ) (table : Table) → IsStore s → IsK
     → IsCounted new u → IsStore new
 adds_store s new u table store also a rows filled counted =
     let pages : (l : ℕ) → pages_kept new l ≡ pages_kept s l = λ l.
-    ap (λ (it : Rattle.std.specs.declared.vec.Vec.Vec Rattle.page_tables.specs.declared.leaf.Leaf.Leaf Rattle.std.specs.declared.alloc.Global.Global). get_or (map (λ (it : Rattle.page_tables.specs.declared.leaf.Leaf.Leaf). it.mapped) it.items) l 0) a.leaves in
+    ap (λ (it : Rattle.std.specs.declared.vec.Vec.Vec Rattle.page_tables.specs.Leaf.Leaf Rattle.std.specs.declared.alloc.Global.Global). get_or (map (λ (it : Rattle.page_tables.specs.Leaf.Leaf). it.mapped) it.items) l 0) a.leaves in
     record {
       kept = also;
       room = adds_room s new u table store.room a rows;

@@ -1,6 +1,7 @@
 -- What a change of pages is to the views of tables.
 use Rattle.std.proofs.Common.{◌≡◌, ◌≢◌, ◌⊎◌, ℕ, zero, suc, ◌+◌, ◌-◌, ◌<◌, ◌≤◌, List, [], ◌∷◌, map, length, get_or, Some, None, Option, is_some, false, true≢false, refl, sym, ap, subst, ◌∙◌, inl, inr, arith, replicate}
 use Rattle.std.proofs.lemmas.Bool.{cases_eq}
+use Rattle.std.proofs.lemmas.List.{length-map}
 use Rattle.model_numbers.specs.Numbers.{page_bytes}
 use Rattle.page_tables.specs.Address.{page_of, offset_of}
 use Rattle.cow_pages.specs.Memory.{Memory, Page, Table, page_in, pages_of, page_at, is_live, is_mapped, IsSound}
@@ -131,3 +132,11 @@ page_at-ended old new t rest ended = ended-pages (get_or new.tables t None) ende
 
 pub IsEmptyView-ended : (old new : Memory) (t : ℕ) → ChangesTable old new t → is_live new t ≡ false → IsEmptyView (view_of new t)
 IsEmptyView-ended old new t rest ended at = ap is_some (page_at-ended old new t rest ended (page_of at))
+
+-- as many bytes as were asked for
+pub length-bytes_at : (v : View) (at count : ℕ) → length (bytes_at v at count) ≡ count
+length-bytes_at v at count = length-map (numbers_from 0 count) (λ i. v.byte (at + i)) ∙ length-numbers 0 count
+  where
+    length-numbers : (k n : ℕ) → length (numbers_from k n) ≡ n
+    length-numbers k zero = refl
+    length-numbers k (suc n) = omega (arith, length-numbers (k + 1) n)

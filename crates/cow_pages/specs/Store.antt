@@ -6,13 +6,12 @@ use Rattle.page_tables.specs.Address.{is_in_window, leaf_pages, table_leaves}
 use Rattle.cow_pages.specs.Memory.{Memory, Page, Table as Pages}
 use Rattle.page_tables.specs.declared.address.Window.{Window}
 use Rattle.page_tables.specs.declared.leaf.Entry.{Entry}
-use Rattle.page_tables.specs.declared.leaf.Leaf.{Leaf}
 use Rattle.page_tables.specs.declared.table.Counts.{Counts}
 use Rattle.page_tables.specs.declared.table.Table.{Table}
 use Rattle.cow_pages.specs.declared.store.Store.{Store}
 use Rattle.page_tables.specs.Counts.{count_in, no_counts}
 use Rattle.page_tables.specs.Frame.{frame_bytes}
-use Rattle.page_tables.specs.Leaf.{present}
+use Rattle.page_tables.specs.Leaf.{Leaf, present}
 use Rattle.page_tables.specs.Tables.{mapped_from, written_from}
 use Rattle.page_tables.specs.Grid.{cell, all_held}
 

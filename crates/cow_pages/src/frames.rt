@@ -2,9 +2,10 @@
 ghost use Rattle.std.specs.Prelude.{◌≡◌, ℕ, ◌≢◌, ◌⊎◌, ◌+◌, ◌≤◌, ◌%◌, max, [], ◌∷◌, true, false, IsTrue, IsOk, IfOk, OnOk, OnErr, Some, None, option_map};
 ghost use Rattle.std.specs.Int.{w16, w32, w64};
 ghost use Rattle.cow_pages.specs.Access.{ReadsNumber, WritesNumber};
-ghost use Rattle.page_tables.specs.Address.{page_of, is_in_window, leaf_index};
+ghost use Rattle.model_numbers.specs.Numbers.{page_bytes};
+ghost use Rattle.page_tables.specs.Address.{page_of, offset_of, is_immune, is_in_window, leaf_index};
 ghost use Rattle.cow_pages.specs.Memory.{is_live, page_at, frame_at, leaf_in, leaf_at, used_leaves, is_mapped, is_written, mapped_in, written_in, used_frames, IsSettled, HasOneSharer, IsShared, IsFree, IsSound};
-ghost use Rattle.cow_pages.specs.View.{view_of, byte_at, u16_at, u32_at, u64_at, WritesBytes, SameView, OthersSeen, AllSeen, IsEmptyView, MapsPage, UnmapsPage};
+ghost use Rattle.cow_pages.specs.View.{view_of, byte_at, bytes_at, u16_at, u32_at, u64_at, WritesBytes, SameView, OthersSeen, AllSeen, IsEmptyView, MapsPage, UnmapsPage};
 ghost use Rattle.cow_pages.specs.Change.{ChangesPage, ChangesTable, KeepsRoom, LeavesLeaf, OtherLeaves, OwnsLeaf, SameLeaves, TakesFrame, TakesOnCopy, TakesOne, FreesFrames, WritesPage, reads_after, MapsZeros, settled};
 
 use crate::store::Store;
@@ -223,6 +224,37 @@ impl Frames {
         ensures { WritesNumber u64_at w64 result self.old self.new t.0 at.0 v }
     {
         self.store.write(t.0, at, &v.to_le_bytes())
+    }
+
+    /// Copies `count` bytes of one page of `t` into another page of it, and sets the written flag of the page written to.
+    ///
+    /// Each range of addresses lies in one page. No read is counted, so `from` lies in neither the image nor the zygote
+    /// window.
+    pub fn copy_slice(
+        &mut self,
+        t: TableNo,
+        from: Addr,
+        to: Addr,
+        count: usize,
+    ) -> Result<(), AllocError>
+        requires from_mapped { IsTrue (is_mapped self.old t.0 (page_of from.0)) }
+        requires to_mapped { IsTrue (is_mapped self.old t.0 (page_of to.0)) }
+        requires apart { page_of from.0 ≢ page_of to.0 }
+        requires from_room { offset_of from.0 + count ≤ page_bytes }
+        requires to_room { offset_of to.0 + count ≤ page_bytes }
+        requires uncounted { is_immune from.0 ≡ false }
+        ensures page { OnOk result (WritesPage self.old self.new t.0 to.0 (bytes_at (view_of self.old t.0) from.0 count)) }
+        ensures view { OnOk result (WritesBytes (view_of self.old t.0) (view_of self.new t.0) to.0 (bytes_at (view_of self.old t.0) from.0 count)) }
+        ensures others_seen { OnOk result (OthersSeen self.old self.new t.0) }
+        ensures takes { OnOk result (TakesOnCopy self.old self.new t.0 (page_of to.0)) }
+        ensures leaf { OnOk result (OwnsLeaf self.old self.new t.0 (leaf_index (page_of to.0))) }
+        ensures reads { OnOk result (self.new.reads ≡ self.old.reads) }
+        ensures succeeds { HasOneSharer self.old t.0 (page_of to.0) ⊎ (self.old.spare ≢ 0) → IsOk result }
+        ensures only { OnErr result (IsShared self.old t.0 (page_of to.0) × (self.old.spare ≡ 0)) }
+        ensures err { OnErr result (self.new ≡ self.old) }
+        ensures sound { IsSound self.new }
+    {
+        self.store.copy_slice(t.0, from, to, count)
     }
 
     /// Adds a table that has each page of `t`, in the same leaf and frame. Uses no leaf and no frame.

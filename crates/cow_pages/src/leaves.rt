@@ -4,11 +4,12 @@ ghost use Rattle.sharers.specs.Shares.{AreTallied};
 ghost use Rattle.page_tables.specs.Address.{leaf_pages, table_leaves};
 ghost use Rattle.cow_pages.specs.Change.{OwnsLeaf};
 ghost use Rattle.page_tables.specs.Grid.{held};
+ghost use Rattle.page_tables.specs.Leaf.{Fits};
 ghost use Rattle.cow_pages.specs.Store.{shown, frame_key, frame_sharers, leaf_sharers, leaf_grid, table_grid, place_at, pages_kept, CountsSlots, IsStore, IsReady};
 ghost use Rattle.cow_pages.specs.Steps.{KeepsCounts, KeepsRoomOf, SetsFrameCounts, TakesLeaf, CopiesLeaf, Ready};
 
 use crate::store::Store;
-use page_tables::{Entry, LEAF_PAGES, Leaf};
+use page_tables::{Entry, LEAF_PAGES};
 
 impl Store {
     /// Puts a leaf at an index of a table, or none.
@@ -30,6 +31,7 @@ impl Store {
     pub fn set_slot(&mut self, leaf: usize, slot: usize, entry: Option<Entry>)
         requires within { leaf < length self.old.leaves.items }
         requires slot { slot < leaf_pages }
+        requires fits { Fits entry }
         requires len { length (slice_index_or (leaf_grid self.old) leaf []) ≡ leaf_pages }
         requires slots { CountsSlots self.old }
         ensures grid { leaf_grid self.new ≡ slice_set (leaf_grid self.old) leaf (slice_set (slice_index_or (leaf_grid self.old) leaf []) slot entry) }
@@ -53,7 +55,7 @@ impl Store {
         ensures rest { self.new ≡ record self.old { frame_counts = self.new.frame_counts } }
     {
         for i in 0..LEAF_PAGES {
-            if let Some(entry) = self.leaves[leaf].entries[i] {
+            if let Some(entry) = self.leaves[leaf].entry(i) {
                 self.frame_counts.share(entry.frame as usize);
             }
         }
@@ -72,7 +74,7 @@ impl Store {
         ensures rest { self.new ≡ record self.old { frame_counts = self.new.frame_counts } }
     {
         for i in 0..LEAF_PAGES {
-            if let Some(entry) = self.leaves[leaf].entries[i] {
+            if let Some(entry) = self.leaves[leaf].entry(i) {
                 self.frame_counts.unshare(entry.frame as usize);
             }
         }
@@ -160,8 +162,7 @@ impl Store {
         ensures pages { (l : ℕ) → l ≢ to → pages_kept self.new l ≡ pages_kept self.old l }
         ensures rest { self.new ≡ record self.old { leaves = self.new.leaves } }
     {
-        let entries = self.leaves[from].entries;
-        let mapped = self.leaves[from].mapped;
-        self.leaves[to] = Leaf { entries, mapped };
+        let copy = self.leaves[from].copied();
+        self.leaves[to] = copy;
     }
 }

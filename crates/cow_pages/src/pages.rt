@@ -4,11 +4,13 @@ ghost use Rattle.model_numbers.specs.Numbers.{page_bytes};
 ghost use Rattle.page_tables.specs.Address.{page_of, offset_of, is_in_window, leaf_index, leaf_slot};
 ghost use Rattle.cow_pages.specs.Memory.{is_live, is_mapped, page_at, HasOneSharer, IsShared, used_frames};
 ghost use Rattle.cow_pages.specs.Change.{ChangesPage, FreesFrames, KeepsRoom, LeavesLeaf, MapsZeros, OwnsLeaf, TakesFrame, TakesOnCopy, TakesOne, WritesPage};
-ghost use Rattle.cow_pages.specs.Store.{shown, spare_of, entry_at, place_at, frame_sharers, leaf_sharers, pages_kept, IsStore, IsReady};
+ghost use Rattle.page_tables.specs.Frame.{part_of};
+ghost use Rattle.cow_pages.specs.View.{bytes_at, view_of};
+ghost use Rattle.cow_pages.specs.Store.{shown, bytes_of, spare_of, entry_at, place_at, frame_sharers, leaf_sharers, pages_kept, IsStore, IsReady};
 ghost use Rattle.cow_pages.specs.Steps.{IsCountedAt, KeepsCounts, LeavesPlace, Recounts, OwnsEntry, PutsBytes, Maps, Marks, Unmaps};
 
 use crate::store::Store;
-use page_tables::{Addr, Entry, LEAF_PAGES, put, window_of};
+use page_tables::{Addr, Entry, LEAF_PAGES, copy_part, put, window_of};
 use std::alloc::AllocError;
 
 impl Store {
@@ -188,6 +190,60 @@ impl Store {
         put(&mut self.frames[number].bytes, offset, bytes);
     }
 
+    /// Copies bytes of one page into another, which is written as `write` does.
+    pub fn copy_slice(
+        &mut self,
+        t: usize,
+        from: Addr,
+        to: Addr,
+        count: usize,
+    ) -> Result<(), AllocError>
+        requires store { IsStore self.old }
+        requires from_mapped { IsTrue (is_mapped (shown self.old) t (page_of from.0)) }
+        requires mapped { IsTrue (is_mapped (shown self.old) t (page_of to.0)) }
+        requires apart { page_of from.0 ≢ page_of to.0 }
+        requires from_room { offset_of from.0 + count ≤ page_bytes }
+        requires room { offset_of to.0 + count ≤ page_bytes }
+        ensures store { IsStore self.new }
+        ensures page { OnOk result (WritesPage (shown self.old) (shown self.new) t to.0 (bytes_at (view_of (shown self.old) t) from.0 count)) }
+        ensures takes { OnOk result (TakesOnCopy (shown self.old) (shown self.new) t (page_of to.0)) }
+        ensures leaf { OnOk result (OwnsLeaf (shown self.old) (shown self.new) t (leaf_index (page_of to.0))) }
+        ensures succeeds { HasOneSharer (shown self.old) t (page_of to.0) ⊎ (spare_of self.old ≢ 0) → IsOk result }
+        ensures only { OnErr result (IsShared (shown self.old) t (page_of to.0) × (spare_of self.old ≡ 0)) }
+        ensures err { OnErr result (shown self.new ≡ shown self.old) }
+    {
+        let page = to.page().0;
+        let entry = self.mapped_entry(t, page);
+        let own = self.own(t, page, entry)?;
+        self.mark(t, page, own);
+        let source = self.mapped_entry(t, from.page().0).frame as usize;
+        let start = from.offset();
+        let offset = to.offset();
+        self.put_part(source, start, own.frame as usize, offset, count);
+        Ok(())
+    }
+
+    /// Puts bytes of one frame into another.
+    fn put_part(&mut self, source: usize, start: usize, number: usize, offset: usize, count: usize)
+        requires store { IsStore self.old }
+        requires source_within { source < length self.old.frames.items }
+        requires within { number < length self.old.frames.items }
+        requires apart { source ≢ number }
+        requires source_room { start + count ≤ page_bytes }
+        requires room { offset + count ≤ page_bytes }
+        ensures store { IsStore self.new }
+        ensures puts { PutsBytes self.old self.new number offset (part_of (bytes_of self.old source) start count) }
+    {
+        copy_part(
+            self.frames.as_mut_slice(),
+            source,
+            start,
+            number,
+            offset,
+            count,
+        );
+    }
+
     pub fn release(&mut self, t: usize, page: u32)
         requires store { IsStore self.old }
         requires mapped { IsTrue (is_mapped (shown self.old) t page) }
@@ -205,7 +261,7 @@ impl Store {
         };
         let entry = self.mapped_entry(t, page);
         self.unmap(t, page, leaf as usize, entry);
-        if self.leaves[leaf as usize].mapped == 0 {
+        if self.leaves[leaf as usize].mapped() == 0 {
             self.leave(t, index, leaf as usize);
         }
     }

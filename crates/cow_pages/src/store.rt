@@ -64,7 +64,18 @@ impl Store {
         requires slot { slot < leaf_pages }
         ensures { result ≡ cell (leaf_grid self.now) leaf slot }
     {
-        self.leaves[leaf].entries[slot]
+        self.leaves[leaf].entry(slot)
+    }
+
+    /// The entry in a slot of a leaf, whose page is mapped.
+    #[inline]
+    fn mapped_slot(&self, leaf: usize, slot: usize) -> Entry
+        requires leaf { leaf < length self.now.leaves.items }
+        requires slot { slot < leaf_pages }
+        requires mapped { IsTrue (is_some (cell (leaf_grid self.now) leaf slot)) }
+        ensures { cell (leaf_grid self.now) leaf slot ≡ Some result }
+    {
+        self.leaves[leaf].mapped_entry(slot)
     }
 
     /// The entry of a page, if it is mapped.
@@ -105,10 +116,7 @@ impl Store {
         let Some(leaf) = self.place(t, page as usize / LEAF_PAGES) else {
             unreachable!()
         };
-        match self.slot(leaf as usize, page as usize % LEAF_PAGES) {
-            Some(entry) => entry,
-            None => unreachable!(),
-        }
+        self.mapped_slot(leaf as usize, page as usize % LEAF_PAGES)
     }
 
     /// Counts a read, and finds the frame of the page.
@@ -119,16 +127,18 @@ impl Store {
         ensures number { frame_at (shown self.old) t (page_of at.0) ≡ Some result }
         ensures store { self.new ≡ record self.old { reads = reads_after self.old.reads at.0 } }
     {
-        self.count_read(at);
+        self.count_read(t, at);
         self.mapped_entry(t, at.page().0).frame as usize
     }
 
-    /// Counts a read where its address is in the image or zygote window.
+    /// Counts a read of a page where its address is in the image or zygote window, the lowest ones.
     #[inline]
-    fn count_read(&mut self, at: Addr)
+    fn count_read(&mut self, t: usize, at: Addr)
+        requires store { IsStore self.old }
+        requires mapped { IsTrue (is_mapped (shown self.old) t (page_of at.0)) }
         ensures { self.new ≡ record self.old { reads = reads_after self.old.reads at.0 } }
     {
-        if at.is_immune() {
+        if at.is_below_regions() {
             self.reads = self.reads.saturating_add(1);
         }
     }

@@ -1,10 +1,10 @@
 -- The image space: objects placed one directly behind the other, and the pages that hold their bytes.
-use Rattle.std.specs.Prelude.{◌≡◌, ℕ, ◌+◌, ◌-◌, ◌/◌, ◌%◌, ◌≤◌, ◌==◌, ◌||◌, List, [], ◌∷◌, sum}
+use Rattle.std.specs.Prelude.{◌≡◌, ℕ, ◌+◌, ◌-◌, ◌/◌, ◌%◌, ◌≤◌, ◌==◌, ◌||◌, List, [], ◌∷◌, max, sum}
 use Rattle.std.specs.List.{list_any}
 use Rattle.model_numbers.specs.Numbers.{image_base, image_length, page_bytes, most_array_bytes}
 use Rattle.page_tables.specs.declared.address.Window.TheVariants.{Image}
 use Rattle.page_tables.specs.Address.{first_page}
-use Rattle.cow_pages.specs.Memory.{Memory}
+use Rattle.cow_pages.specs.Memory.{Memory, used_frames, used_leaves}
 use Rattle.mark_bitmap.specs.Marks.{Marks, is_marked}
 use Rattle.page_runs.specs.Runs.{HasRun}
 
@@ -52,12 +52,14 @@ pub record Places (old new : Space) (at size : ℕ) : Type 0 where
   pub fill : new.fill ≡ old.fill + size
   pub starts : (q : ℕ) → is_marked new.starts q ≡ (q == at || is_marked old.starts q)
 
--- nothing changed but that more frames and leaves may be free
-pub record KeepsPages (old new : Memory) : Type 0 where
+-- nothing changed but that more frames and leaves may be free: as many were made as lacked for n pages, or none
+pub record KeepsPages (old new : Memory) (n : ℕ) : Type 0 where
   pub rest : new ≡ record old { frames = new.frames; leaf_count = new.leaf_count; spare = new.spare }
   pub frames : old.frames ≤ new.frames
   pub leaf_count : old.leaf_count ≤ new.leaf_count
   pub spare : old.spare ≤ new.spare
+  pub frames_made : new.frames ≤ max old.frames (used_frames old + n)
+  pub leaves_made : new.leaf_count ≤ max old.leaf_count (used_leaves old + n)
 
 -- the addresses of objects of these sizes, each directly behind the one before, from an address on
 abbrev pub spots_from : ℕ → List ℕ → List ℕ

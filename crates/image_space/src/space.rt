@@ -84,7 +84,7 @@ impl ImageSpace {
         ensures pages { HasPagesUpTo frames.new t.0 self.new.fill }
         ensures full { image_length < self.old.fill + size → (result ≡ Err (ImageError.Full self.old.fill size)) × (frames.new ≡ frames.old) }
         ensures err { IfErr result (λ e. (image_length < self.old.fill + size) ⊎ (e ≡ ImageError.OutOfMemory)) }
-        ensures same { IfErr result (λ _. (self.new ≡ self.old) × KeepsPages frames.old frames.new) }
+        ensures same { IfErr result (λ _. (self.new ≡ self.old) × KeepsPages frames.old frames.new (further_pages self.old.fill (self.old.fill + size))) }
         ensures space { IsSpace self.new }
         ensures sound { IsSound frames.old → IsSound frames.new }
     {

@@ -10,6 +10,8 @@ mod classes;
 #[cfg(test)]
 mod images;
 #[cfg(test)]
+mod live;
+#[cfg(test)]
 mod objects;
 #[cfg(test)]
 mod pages;

@@ -1,5 +1,5 @@
 -- The words of a new object, as they are written.
-use Rattle.std.proofs.Common.{◌≡◌, ◌∙◌, ℕ, ◌+◌, ◌-◌, ◌*◌, ◌%◌, ◌^◌, ◌<◌, ◌≤◌, List, refl, sym, ap, subst, inl, inr, arith}
+use Rattle.std.proofs.Common.{◌≡◌, ◌∙◌, ℕ, ◌+◌, ◌-◌, ◌*◌, ◌%◌, ◌^◌, ◌<◌, ◌≤◌, List, length, refl, sym, ap, subst, inl, inr, arith}
 use Rattle.std.specs.Int.{w64, to_le_bytes}
 use Rattle.class_layout.specs.declared.kind.Kind.{Kind}
 use Rattle.class_layout.specs.declared.kind.Kind.TheVariants.{Int}
@@ -53,6 +53,15 @@ WritesWords-step m old new t at i n words writes span = record {
   span = span;
   bytes = changes-after (view_of m t) (view_of old t) (view_of new t) at (at + 8 * i) (at + 8 * i) (at + 8 * i + 8) at (at + 8 * (i + 1)) (omega arith) (omega arith) (omega arith) (omega arith)
       words.bytes (changes-write (view_of old t) (view_of new t) (at + 8 * i) n writes);
+}
+
+-- several words more, in one write
+pub WritesWords-piece : (m old new : Memory) (t at i n : ℕ) (bytes : List ℕ) → length bytes ≡ 8 * n → WritesWords m old t at i → WritesBytes (view_of old t) (view_of new t) (at + 8 * i) bytes
+    → WritesSpan m new t at (at + 8 * (i + n)) → WritesWords m new t at (i + n)
+WritesWords-piece m old new t at i n bytes len words writes span = record {
+  span = span;
+  bytes = changes-after (view_of m t) (view_of old t) (view_of new t) at (at + 8 * i) (at + 8 * i) (at + 8 * i + length bytes) at (at + 8 * (i + n)) (omega arith) (omega arith) (omega arith) (omega (arith, len))
+      words.bytes (record { others = writes.others; mapped = writes.mapped });
 }
 
 -- a word can't fail where each page has a frame of its own

@@ -318,6 +318,35 @@ WritesSpan-step m old new t at done bytes aligned multiple w takes sound s = eli
   | inr behind ↦ next-page m old new t at (at + done) bytes s w takes sound (at + (done + 8)) behind.0 behind.1
 ]
 
+-- the page of a piece is the last one that was written, or the one behind it
+piece-step : (at done count : ℕ) → at % 8 ≡ 0 → done % 8 ≡ 0 → 0 < count → (at + done) % 4096 + count ≤ 4096
+    → ((page_of (at + done) + 1 ≡ page_of at + pages_in at (at + done)) × (0 < pages_in at (at + done)) × (pages_in at (at + (done + count)) ≡ pages_in at (at + done)))
+    ⊎ ((page_of (at + done) ≡ page_of at + pages_in at (at + done)) × (pages_in at (at + (done + count)) ≡ pages_in at (at + done) + 1))
+piece-step at done count aligned multiple some room = elim (cases_lt 0 done) [
+  | inl more ↦
+      let here = pages-some at (at + done) (omega arith) in
+      let next = pages-some at (at + (done + count)) (omega arith) in
+      let last : page_of (at + (done + count) - 1) ≡ page_of (at + done) = omega arith in
+      elim (cases_eq (page_of (at + done)) (page_of (at + done - 1))) [
+        | inl same ↦ inl (omega (arith, here, same), omega (arith, here, same), omega (arith, here, next, same, last))
+        | inr apart ↦ inr (omega (arith, here, apart), omega (arith, here, next, apart, last))
+      ]
+  | inr none ↦
+      let is : done ≡ 0 = omega arith in
+      let here : pages_in at (at + done) ≡ 0 = ap (pages_in at) (let e : at + done ≡ at = omega arith in e) ∙ pages-none at in
+      let next = pages-some at (at + (done + count)) (omega arith) in
+      let last : page_of (at + (done + count) - 1) ≡ page_of (at + done) = omega arith in
+      inr (omega (arith, here, is), omega (arith, here, next, is, last))
+]
+
+-- a piece of one page more
+pub WritesSpan-piece : (m old new : Memory) (t at done count : ℕ) (bytes : List ℕ) → at % 8 ≡ 0 → done % 8 ≡ 0 → 0 < count → (at + done) % 4096 + count ≤ 4096
+    → WritesPage old new t (at + done) bytes → TakesOnCopy old new t (page_of (at + done)) → IsSound new → WritesSpan m old t at (at + done) → WritesSpan m new t at (at + (done + count))
+WritesSpan-piece m old new t at done count bytes aligned multiple some room w takes sound s = elim (piece-step at done count aligned multiple some room) [
+  | inl last ↦ same-page m old new t at (at + done) bytes s w takes sound (at + (done + count)) last.0 last.1 last.2
+  | inr behind ↦ next-page m old new t at (at + done) bytes s w takes sound (at + (done + count)) behind.0 behind.1
+]
+
 -- a page that is still to be written has its own frame, where all had
 pub alone-next : (m old : Memory) (t at done total : ℕ) → at % 8 ≡ 0 → done % 8 ≡ 0 → done + 8 ≤ total → WritesSpan m old t at (at + done) → AreAlone m t (page_of at) (pages_in at (at + total))
     → HasOneSharer old t (page_of (at + done))

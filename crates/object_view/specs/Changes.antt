@@ -5,7 +5,7 @@ use Rattle.class_layout.specs.Kinds.{kind_bytes}
 use Rattle.page_tables.specs.Address.{page_of}
 use Rattle.cow_pages.specs.Memory.{Memory, page_at, frame_at, is_live, is_written, HasOneSharer, IsShared, IsFree, IsSound}
 use Rattle.cow_pages.specs.Change.{KeepsRoom, TakesOnCopy, reads_after}
-use Rattle.cow_pages.specs.View.{View, view_of, OthersSeen}
+use Rattle.cow_pages.specs.View.{View, byte_at, view_of, OthersSeen}
 use Rattle.heap_graph.specs.declared.names.Shape.{Shape}
 use Rattle.heap_graph.specs.declared.names.Shape.TheVariants.{Instance, Array}
 use Rattle.object_view.specs.declared.names.Slot.{Slot}
@@ -83,6 +83,17 @@ abbrev pub reads_after_all : ℕ → List ℕ → ℕ
 reads_after_all reads [] = reads
 reads_after_all reads (at ∷ more) = reads_after_all (reads_after reads at) more
 
+-- each 8 bytes from an address on, so many times
+abbrev pub steps_from : ℕ → ℕ → List ℕ
+steps_from at zero = []
+steps_from at (suc n) = at ∷ steps_from (at + 8) n
+
+-- so many words of 8 bytes were copied from an address, and no other byte changed
+pub record IsCopying (old new : Memory) (t from to n : ℕ) : Type 0 where
+  pub words : WritesWords old new t to n
+  pub copied : (b : ℕ) → b < 8 * n → byte_at new t (to + b) ≡ byte_at old t (from + b)
+  pub reads : new.reads ≡ reads_after_all old.reads (steps_from from n)
+
 -- where the shape of an object is read
 abbrev pub shape_reads : ℕ → Shape → List ℕ
 shape_reads at (Instance class) = at ∷ []
@@ -92,8 +103,3 @@ shape_reads at (Array kind count) = at ∷ (at + 8) ∷ []
 abbrev pub slot_reads : Option Slot → List ℕ
 slot_reads None = []
 slot_reads (Some slot) = slot.at.0 ∷ []
-
--- each 8 bytes from an address on, so many times
-abbrev pub steps_from : ℕ → ℕ → List ℕ
-steps_from at zero = []
-steps_from at (suc n) = at ∷ steps_from (at + 8) n

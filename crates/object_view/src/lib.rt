@@ -23,5 +23,5 @@ pub use laws::{
     values_stand,
 };
 pub use names::{Header, Heap, Slot};
-pub use objects::{copy_object, ref_slot, size_of, write_new};
+pub use objects::{copy_object, ref_slot, reference_at, size_of, write_new};
 pub use values::{load, store};

@@ -1,17 +1,18 @@
 //! Whole objects, and their references.
-ghost use Rattle.std.specs.Prelude.{◌≡◌, ◌⊎◌, ℕ, ◌+◌, ◌*◌, ◌/◌, ◌%◌, ◌^◌, ◌<◌, ◌≤◌, [], ◌++◌, Option, None, Some, option_map, IsTrue, IsOk, IfOk, IsSomeAnd, OnOk, OnErr, ℤ, List};
+ghost use Rattle.std.specs.Prelude.{◌≡◌, ◌≢◌, ◌⊎◌, false, ℕ, ◌+◌, ◌*◌, ◌/◌, ◌%◌, ◌^◌, ◌<◌, ◌≤◌, [], ◌++◌, Option, None, Some, option_map, IsTrue, IsOk, IfOk, IsSomeAnd, OnOk, OnErr, ℤ, List};
 ghost use Rattle.class_layout.specs.declared.kind.FieldAt.{FieldAt};
 ghost use Rattle.class_layout.specs.ClassList.{Class};
-ghost use Rattle.page_tables.specs.Address.{page_of};
+ghost use Rattle.page_tables.specs.Address.{page_of, offset_of, is_immune};
 ghost use Rattle.cow_pages.specs.Memory.{is_mapped, IsShared, IsSound, Memory};
 ghost use Rattle.cow_pages.specs.View.{byte_at, view_of, OthersSeen, WritesBytes};
 ghost use Rattle.std.specs.Int.{w64, to_le_bytes};
-ghost use Rattle.model_numbers.specs.Numbers.{number_limit};
+ghost use Rattle.model_numbers.specs.Numbers.{number_limit, page_bytes};
+ghost use Rattle.cow_pages.specs.Change.{reads_after};
 ghost use Rattle.heap_graph.specs.Sizes.{size_in};
 ghost use Rattle.object_view.specs.Words.{class_word, head_end, lock_word};
 ghost use Rattle.object_view.specs.Values.{is_value, no_values};
 ghost use Rattle.object_view.specs.Objects.{reference_place, slot_at, HasShape, HasWords, IsKnown, IsObject, IsSlotOf, IsSpace, Stands};
-ghost use Rattle.object_view.specs.Changes.{pages_in, reads_after_all, shape_reads, slot_reads, steps_from, AreAlone, AreWritten, ChangesPages, ChangesWithin, HasBytes, WritesSpan, WritesWords};
+ghost use Rattle.object_view.specs.Changes.{pages_in, reads_after_all, shape_reads, slot_reads, steps_from, AreAlone, AreWritten, ChangesPages, ChangesWithin, HasBytes, IsCopying, WritesSpan, WritesWords};
 
 use crate::headers::read_shape;
 use crate::words::{class_word, lock_word};
@@ -19,6 +20,7 @@ use crate::{Header, Slot};
 use class_layout::{Classes, Kind, array_size};
 use cow_pages::{Addr, Frames, TableNo};
 use heap_graph::Shape;
+use model_numbers::PAGE_BYTES;
 use std::alloc::AllocError;
 
 /// Puts an object there: its words, and zeros and nulls up to its rounded size.
@@ -51,7 +53,8 @@ pub fn write_new(
     write_zeros(frames, t, at, first, words)
 }
 
-/// Copies the bytes of an object, 8 at a time.
+/// Copies the bytes of an object, each piece of them that lies in one page here and there as a slice. Where the reads are
+/// counted, or both pieces lie in one page, it copies 8 bytes at a time.
 ///
 /// After `AllocError` the first of them may have been written, as those of `write_new`.
 pub fn copy_object(
@@ -80,11 +83,66 @@ pub fn copy_object(
     ensures succeeds { AreAlone frames.old t.0 (page_of to.0) (pages_in to.0 (to.0 + size)) → IsOk result }
     ensures sound { 0 < size → IsSound frames.new }
 {
-    for i in 0..size / 8 {
-        let word = frames.read_u64(t, Addr(from.0 + 8 * i));
-        write_word(frames, t, to, i, word)?;
+    let words = size / 8;
+    let mut i = 0;
+    while i < words {
+        let n = copy_some(frames, t, from, to, i, words)?;
+        i += n;
     }
     Ok(())
+}
+
+// Copies words of 8 bytes from number `i` on, and tells how many: as many as lie in one page here and there, or one.
+fn copy_some(
+    frames: &mut Frames,
+    t: TableNo,
+    from: Addr,
+    to: Addr,
+    i: u32,
+    words: u32,
+) -> Result<u32, AllocError>
+    requires from_aligned { from.0 % 8 ≡ 0 }
+    requires to_aligned { to.0 % 8 ≡ 0 }
+    requires rising { i < words }
+    requires from_space { IsSpace (view_of frames.old t.0) from.0 (8 * words) }
+    requires to_space { IsSpace (view_of frames.old t.0) to.0 (8 * words) }
+    requires apart { (from.0 + 8 * words ≤ to.0) ⊎ (to.0 + 8 * words ≤ from.0) }
+    ensures some { IfOk result (λ n. (0 < n) × (i + n ≤ words)) }
+    ensures copies { IfOk result (λ n. (m : Memory) → IsCopying m frames.old t.0 from.0 to.0 i → IsCopying m frames.new t.0 from.0 to.0 (i + n)) }
+    ensures only { OnErr result (IsShared frames.old t.0 (page_of (to.0 + 8 * i))) }
+    ensures err { OnErr result (frames.new ≡ record frames.old { reads = reads_after frames.old.reads (from.0 + 8 * i) }) }
+    ensures sound { IsSound frames.new }
+{
+    let source = Addr(from.0 + 8 * i);
+    let target = Addr(to.0 + 8 * i);
+    if !is_sliced(source, target) {
+        let word = frames.read_u64(t, source);
+        write_word(frames, t, to, i, word)?;
+        return Ok(1);
+    }
+    let count = words_in_page(source)
+        .min(words_in_page(target))
+        .min((words - i) as usize);
+    frames.copy_slice(t, source, target, 8 * count)?;
+    Ok(count as u32)
+}
+
+// Whether bytes may be copied as a slice: their reads aren't counted, and the pages are two.
+#[inline]
+fn is_sliced(source: Addr, target: Addr) -> bool
+    ensures { IsTrue result → (is_immune source.0 ≡ false) × (page_of source.0 ≢ page_of target.0) }
+{
+    !source.is_immune() && source.page().0 != target.page().0
+}
+
+// How many words of 8 bytes stand from an address on in its page.
+#[inline]
+fn words_in_page(at: Addr) -> usize
+    requires { at.0 % 8 ≡ 0 }
+    ensures some { 0 < result }
+    ensures within { offset_of at.0 + 8 * result ≡ page_bytes }
+{
+    (PAGE_BYTES as usize - at.offset()) / 8
 }
 
 /// The object's reference number `k`, from 0 by rising address. `None` from the number of its references on.
@@ -109,8 +167,9 @@ pub fn ref_slot(
     Some(Slot { at, target, weak })
 }
 
-// The offset of reference number k in an object, and whether it is weak.
-fn reference_at(classes: &Classes, shape: Shape, k: usize) -> Option<(u32, bool)>
+/// The offset in bytes of reference number `k` in an object of a shape, counted from 0 by rising offset, and whether it is
+/// weak. `None` from the number of references on. Nothing is read.
+pub fn reference_at(classes: &Classes, shape: Shape, k: usize) -> Option<(u32, bool)>
     requires known { IsKnown classes.now shape }
     requires bounded { size_in classes.now shape ≤ 2 ^ 32 }
     ensures { result ≡ option_map (λ (place : FieldAt). (place.offset, place.weak)) (reference_place classes.now shape k) }

@@ -3,3 +3,4 @@ pub mod LeafLemmas
 pub mod ListLemmas
 pub mod PatchLemmas
 pub mod GridLemmas
+pub mod SlotsLemmas

@@ -2,11 +2,10 @@
 use Rattle.std.proofs.Common.{◌≡◌, ◌≢◌, ℕ, ◌-◌, ◌<◌, List, [], ◌++◌, length, map, get_or, set, Some, None, Option, is_some, IsTrue, sym, ap, ◌∙◌, inl, inr, arith}
 use Rattle.std.proofs.lemmas.List.{get_or-set_same, get_or-set_other, get_or-map, get_or_past, get_or_default, length-map, map-set, set-append_left, set-append_right, get_or_append_left, get_or-append_right}
 use Rattle.std.proofs.lemmas.Bool.{cases_eq, cases_lt, false≢true}
-use Rattle.page_tables.specs.declared.leaf.Leaf.{Leaf}
 use Rattle.page_tables.specs.declared.frame.Frame.{Frame}
 use Rattle.page_tables.specs.declared.table.Table.{Table}
-use Rattle.page_tables.specs.Frame.{frame_bytes, frame_of}
-use Rattle.page_tables.specs.Leaf.{present}
+use Rattle.page_tables.specs.Frame.{frame_bytes, frame_of, part_of, patched}
+use Rattle.page_tables.specs.Leaf.{Leaf, present}
 
 -- a frame of which nothing is known
 abbrev pub no_frame : Frame
@@ -15,26 +14,57 @@ no_frame = record { bytes = [] }
 pub frame-there : (frames : List Frame) (f : ℕ) → f < length frames → frame_bytes frames f ≡ (get_or frames f no_frame).bytes
 frame-there frames f within = get_or-map (λ (it : Frame). it.bytes) frames f no_frame [] within
 
+-- a list of frames that was cut in two: a frame of the first part, and the first of the second, read and replaced
+pub low-read : (frames low high : List Frame) (f : ℕ) → frames ≡ low ++ high → f < length low → f < length frames → frame_bytes frames f ≡ (get_or low f no_frame).bytes
+low-read frames low high f cut below within =
+    frame-there frames f within ∙ ap (λ (fs : List Frame). (get_or fs f no_frame).bytes) cut ∙ ap (λ (it : Frame). it.bytes) (get_or_append_left low high no_frame f below)
+
+pub high-read : (frames low high : List Frame) (f : ℕ) → frames ≡ low ++ high → length low ≡ f → f < length frames → frame_bytes frames f ≡ (get_or high 0 no_frame).bytes
+high-read frames low high f cut len within =
+    let none : f - f ≡ 0 = omega arith in
+    frame-there frames f within ∙ ap (λ (fs : List Frame). (get_or fs f no_frame).bytes) cut
+    ∙ ap (λ (it : Frame). it.bytes) (get_or-append_right low high f f no_frame len (omega arith) ∙ ap (λ i. get_or high i no_frame) none)
+
+pub high-set : (frames low high : List Frame) (f : ℕ) (y : Frame) → frames ≡ low ++ high → length low ≡ f → low ++ set high 0 y ≡ set frames f y
+high-set frames low high f y cut len =
+    let none : f - f ≡ 0 = omega arith in
+    sym (ap (λ (fs : List Frame). set fs f y) cut ∙ set-append_right low high f f y len (omega arith) ∙ ap (λ i. low ++ set high i y) none)
+
+pub low-set : (frames low high : List Frame) (f : ℕ) (y : Frame) → frames ≡ low ++ high → f < length low → set low f y ++ high ≡ set frames f y
+low-set frames low high f y cut below = sym (ap (λ (fs : List Frame). set fs f y) cut ∙ set-append_left low high f y below)
+
 -- the list was cut in two at the frame that is copied to
 pub copied-up : (frames low high : List Frame) (from to : ℕ) (bs : List ℕ) → frames ≡ low ++ high → length low ≡ to → from < to → to < length frames → bs ≡ (get_or low from no_frame).bytes
     → low ++ set high 0 (record { bytes = bs }) ≡ set frames to (frame_of frames from)
 copied-up frames low high from to bs cut len below within is =
-    let none : to - to ≡ 0 = omega arith in
-    let read : frame_bytes frames from ≡ bs =
-    frame-there frames from (omega arith) ∙ ap (λ (fs : List Frame). (get_or fs from no_frame).bytes) cut ∙ ap (λ (it : Frame). it.bytes) (get_or_append_left low high no_frame from (omega arith)) ∙ sym is in
-    sym (ap (λ (fs : List Frame). set fs to (frame_of frames from)) cut ∙ set-append_right low high to to (frame_of frames from) len (omega arith)
-    ∙ ap (λ i. low ++ set high i (frame_of frames from)) none ∙ ap (λ (it : List ℕ). low ++ set high 0 (record { bytes = it })) read)
+    high-set frames low high to (record { bytes = bs }) cut len
+    ∙ ap (λ (it : List ℕ). set frames to (record { bytes = it })) (is ∙ sym (low-read frames low high from cut (omega (arith, len, below)) (omega (arith, below, within))))
 
 -- the list was cut in two at the frame that is copied from
 pub copied-down : (frames low high : List Frame) (from to : ℕ) (bs : List ℕ) → frames ≡ low ++ high → length low ≡ from → to < from → from < length frames → bs ≡ (get_or high 0 no_frame).bytes
     → set low to (record { bytes = bs }) ++ high ≡ set frames to (frame_of frames from)
 copied-down frames low high from to bs cut len below within is =
-    let none : from - from ≡ 0 = omega arith in
-    let read : frame_bytes frames from ≡ bs =
-    frame-there frames from within ∙ ap (λ (fs : List Frame). (get_or fs from no_frame).bytes) cut
-    ∙ ap (λ (it : Frame). it.bytes) (get_or-append_right low high from from no_frame len (omega arith) ∙ ap (λ i. get_or high i no_frame) none) ∙ sym is in
-    sym (ap (λ (fs : List Frame). set fs to (frame_of frames from)) cut ∙ set-append_left low high to (frame_of frames from) (omega arith)
-    ∙ ap (λ (it : List ℕ). set low to (record { bytes = it }) ++ high) read)
+    low-set frames low high to (record { bytes = bs }) cut (omega (arith, len, below))
+    ∙ ap (λ (it : List ℕ). set frames to (record { bytes = it })) (is ∙ sym (high-read frames low high from cut len within))
+
+-- the same where a part of the frame was copied
+pub part-up : (frames low high : List Frame) (from start to offset count : ℕ) (y : Frame) → frames ≡ low ++ high → length low ≡ to → from < to → to < length frames
+    → y.bytes ≡ patched (get_or high 0 no_frame).bytes offset (part_of (get_or low from no_frame).bytes start count)
+    → low ++ set high 0 y ≡ set frames to (record { bytes = patched (frame_bytes frames to) offset (part_of (frame_bytes frames from) start count) })
+part-up frames low high from start to offset count y cut len below within is =
+    high-set frames low high to y cut len
+    ∙ ap (λ (it : List ℕ). set frames to (record { bytes = it }))
+    (is ∙ ap (λ (it : List ℕ). patched it offset (part_of (get_or low from no_frame).bytes start count)) (sym (high-read frames low high to cut len within))
+    ∙ ap (λ (it : List ℕ). patched (frame_bytes frames to) offset (part_of it start count)) (sym (low-read frames low high from cut (omega (arith, len, below)) (omega (arith, below, within)))))
+
+pub part-down : (frames low high : List Frame) (from start to offset count : ℕ) (y : Frame) → frames ≡ low ++ high → length low ≡ from → to < from → from < length frames
+    → y.bytes ≡ patched (get_or low to no_frame).bytes offset (part_of (get_or high 0 no_frame).bytes start count)
+    → set low to y ++ high ≡ set frames to (record { bytes = patched (frame_bytes frames to) offset (part_of (frame_bytes frames from) start count) })
+part-down frames low high from start to offset count y cut len below within is =
+    low-set frames low high to y cut (omega (arith, len, below))
+    ∙ ap (λ (it : List ℕ). set frames to (record { bytes = it }))
+    (is ∙ ap (λ (it : List ℕ). patched it offset (part_of (get_or high 0 no_frame).bytes start count)) (sym (low-read frames low high to cut (omega (arith, len, below)) (omega (arith, below, within))))
+    ∙ ap (λ (it : List ℕ). patched (frame_bytes frames to) offset (part_of it start count)) (sym (high-read frames low high from cut len within)))
 
 -- a field at the place that was changed, and at another
 pub field-here : {X B : Type 0} (f : X → B) (xs : List X) (k : ℕ) (y : X) (d : B) → k < length xs → get_or (map f (set xs k y)) k d ≡ f y

@@ -1,9 +1,9 @@
 -- Bytes that were put into others.
 use Rattle.std.proofs.Common.{◌≡◌, ℕ, ◌+◌, ◌-◌, ◌<◌, ◌≤◌, List, ◌++◌, length, get_or, ap, ◌∙◌, inl, inr, arith}
 use Rattle.std.specs.Prelude.{All, take, drop}
-use Rattle.std.proofs.lemmas.List.{length-append, length-take, length-drop, get_or_append_left, get_or-append_right, get_or-take, get_or-drop}
+use Rattle.std.proofs.lemmas.List.{length-append, length-take, length-drop, length-take-le, get_or_append_left, get_or-append_right, get_or-take, get_or-drop}
 use Rattle.std.proofs.lemmas.Bool.{cases_lt}
-use Rattle.page_tables.specs.Frame.{patched}
+use Rattle.page_tables.specs.Frame.{patched, part_of}
 
 -- an element before, among and after those that were put in
 pub patched-before : (bs : List ℕ) (o : ℕ) (new : List ℕ) (k d : ℕ) → o + length new ≤ length bs → k < o → get_or (patched bs o new) k d ≡ get_or bs k d
@@ -37,3 +37,15 @@ small-patched bs o new room bytes also k d within =
         | inr after ↦ rw (patched-after bs o new k d room after) (bytes k d (omega arith))
       ]
     ]
+
+-- the length of a part, and its elements
+pub length-part : (bs : List ℕ) (start count : ℕ) → start + count ≤ length bs → length (part_of bs start count) ≡ count
+length-part bs start count room = length-take-le count (drop start bs) (omega (arith, room, length-drop start bs))
+
+pub part-at : (bs : List ℕ) (start count k d : ℕ) → k < count → get_or (part_of bs start count) k d ≡ get_or bs (start + k) d
+part-at bs start count k d below = get_or-take count (drop start bs) k d below ∙ get_or-drop start bs k d
+
+pub small-part : (bs : List ℕ) (start count : ℕ) → start + count ≤ length bs → All (λ b. b < 256) bs → All (λ b. b < 256) (part_of bs start count)
+small-part bs start count room bytes k d within =
+    let below : k < count = omega (arith, within, length-part bs start count room) in
+    rw (part-at bs start count k d below) (bytes (start + k) d (omega (arith, below, room)))

@@ -4,7 +4,7 @@ use Rattle.std.proofs.lemmas.Bool.{ltb-true, leb-true, and_left, and_right, and_
 use Rattle.page_tables.specs.declared.address.Window.{Window}
 use Rattle.page_tables.specs.declared.address.Window.TheVariants.{Image, Zygote, Regions, Large}
 use Rattle.page_tables.specs.declared.table.Counts.{Counts}
-use Rattle.page_tables.specs.Address.{is_in, is_in_window}
+use Rattle.page_tables.specs.Address.{is_in, is_in_window, is_immune, page_of}
 use Rattle.page_tables.specs.Counts.{count_in, with_count, no_counts}
 use Rattle.page_tables.specs.Tables.{window_of}
 
@@ -198,3 +198,22 @@ window_below p is = elim (or_cases _ (is_in Large p) is) [
   ]
   | inr one ↦ let at = in_bounds 0x80000 0xa0000 p one in omega (arith, at.1)
 ]
+
+-- an address of a window is one where reads are counted exactly where it lies below the regions
+pub immune-below : (at : ℕ) → IsTrue (is_in_window (page_of at)) → is_immune at ≡ ltb (page_of at) 0x40000
+immune-below at is = by (page_of at) is
+  where
+    by : (p : ℕ) → IsTrue (is_in_window p) → (is_in Image p || is_in Zygote p) ≡ ltb p 0x40000
+    by p is = elim (or_cases _ (is_in Large p) is) [
+      | inl rest ↦ elim (or_cases _ (is_in Regions p) rest) [
+        | inl two ↦ elim (or_cases (is_in Image p) (is_in Zygote p) two) [
+          | inl one ↦ let at = in_bounds 0x20000 0x24000 p one in two ∙ sym (lt-ltb p 0x40000 (omega (arith, at.1)))
+          | inr one ↦ let at = in_bounds 0x30000 0x40000 p one in two ∙ sym (lt-ltb p 0x40000 at.1)
+        ]
+        | inr one ↦ let at = in_bounds 0x40000 0x50000 p one in past p at.0
+      ]
+      | inr one ↦ let at = in_bounds 0x80000 0xa0000 p one in past p (omega (arith, at.0))
+    ]
+      where
+        past : (p : ℕ) → 0x40000 ≤ p → (is_in Image p || is_in Zygote p) ≡ ltb p 0x40000
+        past p above = grind (arith, is_in_past 0x20000 0x24000 p (omega (arith, above)), is_in_past 0x30000 0x40000 p above, le-ltb p 0x40000 above)

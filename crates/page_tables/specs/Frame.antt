@@ -18,3 +18,7 @@ frame_of frames f = record { bytes = frame_bytes frames f }
 -- the bytes with these put in from an offset on
 abbrev pub patched : List ℕ → ℕ → List ℕ → List ℕ
 patched bytes offset new = take offset bytes ++ new ++ drop (offset + length new) bytes
+
+-- so many of the bytes from an offset on
+abbrev pub part_of : List ℕ → ℕ → ℕ → List ℕ
+part_of bytes start count = take count (drop start bytes)

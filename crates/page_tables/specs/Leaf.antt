@@ -1,8 +1,17 @@
 -- The entries of a leaf.
-use Rattle.std.specs.Prelude.{ℕ, ◌+◌, false, List, [], ◌∷◌, Option, Some, None, option_map, replicate, if◌then◌else◌}
+use Rattle.std.specs.Prelude.{ℕ, ⊤, ◌+◌, ◌-◌, ◌<◌, ◌^◌, false, List, [], ◌∷◌, Option, Some, None, option_map, replicate, if◌then◌else◌}
 use Rattle.page_tables.specs.Address.{leaf_pages}
 use Rattle.page_tables.specs.declared.leaf.Entry.{Entry}
-use Rattle.page_tables.specs.declared.leaf.Leaf.{Leaf}
+
+-- what a contract sees of a leaf: the entry of each slot, and how many are there
+pub record Leaf : Type 0 where
+  pub entries : List (Option Entry)
+  pub mapped : ℕ
+
+-- an entry whose frame's number is below 4,294,967,295, or none
+abbrev pub Fits : Option Entry → Type 0
+Fits None = ⊤
+Fits (Some e) = e.frame < 2 ^ 32 - 1
 
 -- a leaf without a mapped page
 abbrev pub no_leaf : Leaf

@@ -4,3 +4,4 @@ pub mod Frame
 pub mod Leaf
 pub mod Tables
 pub mod Grid
+pub mod Slots

@@ -1,6 +1,6 @@
 //! Addresses, the numbers of pages, frames, leaves and tables, and the windows of addresses.
-ghost use Rattle.std.specs.Prelude.{◌≡◌};
-ghost use Rattle.page_tables.specs.Address.{page_of, offset_of, is_immune};
+ghost use Rattle.std.specs.Prelude.{◌≡◌, nat_lt};
+ghost use Rattle.page_tables.specs.Address.{first_page, page_of, offset_of, is_immune};
 
 use model_numbers::{
     IMAGE_BASE, IMAGE_LENGTH, LARGE_BASE, LARGE_SLOT_BYTES, LARGE_SLOT_COUNT, PAGE_BYTES,
@@ -90,5 +90,13 @@ impl Addr {
         let page = self.0 / PAGE_BYTES;
         (IMAGE_PAGE..IMAGE_PAGE_END).contains(&page)
             || (ZYGOTE_PAGE..ZYGOTE_PAGE_END).contains(&page)
+    }
+
+    /// Whether the address lies below the regions. In a window, it then is one of the image or zygote window.
+    #[inline]
+    pub fn is_below_regions(self) -> bool
+        ensures { result ≡ nat_lt (page_of self.0) (first_page Window.Regions) }
+    {
+        self.0 / PAGE_BYTES < REGIONS_PAGE
     }
 }

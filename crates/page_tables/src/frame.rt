@@ -1,7 +1,7 @@
 //! A frame: the bytes of a page.
 ghost use Rattle.std.specs.Prelude.{◌≡◌, ◌≢◌, ◌+◌, ◌≤◌, ◌<◌, [], ◌∷◌, ◌^◌, length, slice_index, slice_set, replicate};
 ghost use Rattle.std.specs.Int.{w16, w32, w64, from_le_bytes};
-ghost use Rattle.page_tables.specs.Frame.{zero_frame, frame_of, patched};
+ghost use Rattle.page_tables.specs.Frame.{zero_frame, frame_of, frame_bytes, part_of, patched};
 
 use model_numbers::PAGE_BYTES;
 
@@ -20,6 +20,15 @@ impl Frame {
         Frame {
             bytes: [0; PAGE_BYTES as usize],
         }
+    }
+
+    /// Puts so many bytes of another frame in, from these offsets on.
+    fn take_part(&mut self, offset: usize, from: &Frame, start: usize, count: usize)
+        requires from_room { start + count ≤ length from.now.bytes }
+        requires room { offset + count ≤ length self.old.bytes }
+        ensures { self.new.bytes ≡ patched self.old.bytes offset (part_of from.now.bytes start count) }
+    {
+        put(&mut self.bytes, offset, &from.bytes[start..start + count]);
     }
 }
 
@@ -98,5 +107,30 @@ pub fn copy_bytes(frames: &mut [Frame], from: usize, to: usize)
     } else {
         let (low, high) = frames.split_at_mut(from);
         low[to].bytes.copy_from_slice(&high[0].bytes);
+    }
+}
+
+/// Puts so many bytes of one frame into another, from these offsets on.
+pub fn copy_part(
+    frames: &mut [Frame],
+    from: usize,
+    start: usize,
+    to: usize,
+    offset: usize,
+    count: usize,
+)
+    requires from_within { from < length frames.old }
+    requires to_within { to < length frames.old }
+    requires apart { from ≢ to }
+    requires from_room { start + count ≤ length (frame_bytes frames.old from) }
+    requires to_room { offset + count ≤ length (frame_bytes frames.old to) }
+    ensures { frames.new ≡ slice_set frames.old to (record { bytes = patched (frame_bytes frames.old to) offset (part_of (frame_bytes frames.old from) start count) }) }
+{
+    if from < to {
+        let (low, high) = frames.split_at_mut(to);
+        high[0].take_part(offset, &low[from], start, count);
+    } else {
+        let (low, high) = frames.split_at_mut(from);
+        low[to].take_part(offset, &high[0], start, count);
     }
 }

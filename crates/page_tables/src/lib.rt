@@ -12,6 +12,6 @@ mod table;
 pub use address::{
     ALL_PAGES, Addr, FrameNo, LEAF_PAGES, LeafNo, PageNo, TABLE_LEAVES, TableNo, Window,
 };
-pub use frame::{Frame, clear, copy_bytes, put, u16_in, u32_in, u64_in};
+pub use frame::{Frame, clear, copy_bytes, copy_part, put, u16_in, u32_in, u64_in};
 pub use leaf::{Entry, Leaf};
 pub use table::{Counts, Table, window_of};

@@ -19,10 +19,10 @@ not-immune : (a : ℕ) → 0x40000000 ≤ a → is_immune a ≡ false
 not-immune a low =
     ap (λ b. b || is_in Zygote (page_of a)) (and_right _ _ (le-ltb (page_of a) 147456 (omega (arith, low)))) ∙ and_right _ _ (le-ltb (page_of a) 262144 (omega (arith, low)))
 
-read-free : (reads a : ℕ) (more : List ℕ) → 0x40000000 ≤ a → reads_after_all reads (a ∷ more) ≡ reads_after_all reads more
+pub read-free : (reads a : ℕ) (more : List ℕ) → 0x40000000 ≤ a → reads_after_all reads (a ∷ more) ≡ reads_after_all reads more
 read-free reads a more low = ap (λ b. reads_after_all (cond b (min (reads + 1) (2 ^ 64 - 1)) reads) more) (not-immune a low)
 
-regions-low : (at : ℕ) → in_regions at ≡ true → 0x40000000 ≤ at
+pub regions-low : (at : ℕ) → in_regions at ≡ true → 0x40000000 ≤ at
 regions-low at is = let low = leb-true 262144 (page_of at) (and_parts _ _ is).0 in omega (arith, low)
 
 last-free : (reads at : ℕ) (found : Option Slot) → 0x40000000 ≤ at → ((s : Slot) → found ≡ Some s → at ≤ s.at.0) → reads_after_all reads (slot_reads found) ≡ reads
@@ -34,12 +34,9 @@ slot-behind : (v : View) (at : ℕ) (found : Option Slot) (place : Option FieldA
 slot-behind v at found None e s is = absurd (none-some s (sym e ∙ is))
 slot-behind v at found (Some p) e s is = let here : s.at.0 ≡ at + p.offset = ap (λ (x : Slot). x.at.0) (sym (same_Some (slot_at v at p) s (sym e ∙ is))) in omega (arith, here)
 
--- the reads of a slot of an object of the regions
-pub slot-free : (v : View) (reads at : ℕ) (shape : Shape) (found : Option Slot) (place : Option FieldAt) → in_regions at ≡ true → found ≡ option_map (slot_at v at) place
+-- the reads of a slot of an object from the first region on
+pub slot-free : (v : View) (reads at : ℕ) (shape : Shape) (found : Option Slot) (place : Option FieldAt) → 0x40000000 ≤ at → found ≡ option_map (slot_at v at) place
     → reads_after_all reads (shape_reads at shape ++ slot_reads found) ≡ reads
-slot-free v reads at (Instance class) found place is e =
-    let low = regions-low at is in
-    read-free reads at (slot_reads found) low ∙ last-free reads at found low (slot-behind v at found place e)
-slot-free v reads at (Array kind count) found place is e =
-    let low = regions-low at is in
+slot-free v reads at (Instance class) found place low e = read-free reads at (slot_reads found) low ∙ last-free reads at found low (slot-behind v at found place e)
+slot-free v reads at (Array kind count) found place low e =
     read-free reads at ((at + 8) ∷ slot_reads found) low ∙ read-free reads (at + 8) (slot_reads found) (omega (arith, low)) ∙ last-free reads at found low (slot-behind v at found place e)

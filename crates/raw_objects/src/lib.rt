@@ -15,6 +15,6 @@ pub use laws::{
     other_objects_are_held, same_objects_are_held, stored_objects_are_held,
     turned_references_are_held,
 };
-pub use moves::{evacuate, goes_to, turn_object, turn_slot};
+pub use moves::{evacuate, goes_to, in_regions, turn_object, turn_slot};
 pub use pages::{drop_page, map_page};
 pub use steps::{add_object, store_value};

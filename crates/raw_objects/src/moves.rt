@@ -1,6 +1,7 @@
 //! Objects that move, and the references to them.
 ghost use Rattle.std.specs.Prelude.{◌≡◌, ◌⊎◌, ◌||◌, ℕ, ◌+◌, ◌/◌, ◌%◌, ◌<◌, ◌≤◌, Bool, true, false, nat_eq, IsTrue, IsOk, OnOk, OnErr, List};
 ghost use Rattle.class_layout.specs.ClassList.{Class};
+ghost use Rattle.model_numbers.specs.Numbers.{region_base};
 ghost use Rattle.page_tables.specs.Address.{page_of};
 ghost use Rattle.cow_pages.specs.Memory.{is_mapped, HasOneSharer, IsSound};
 ghost use Rattle.cow_pages.specs.View.{view_of};
@@ -61,8 +62,8 @@ pub fn goes_to(frames: &mut Frames, t: TableNo, target: Addr) -> Addr
     }
 }
 
-// Whether the address lies in the regions.
-fn in_regions(at: Addr) -> bool
+/// Whether the address lies in the window of regions.
+pub fn in_regions(at: Addr) -> bool
     ensures { result ≡ in_regions at.0 }
 {
     let first = REGION_BASE / PAGE_BYTES;
@@ -90,8 +91,8 @@ pub fn turn_slot(frames: &mut Frames, t: TableNo, at: Addr, target: Addr) -> Res
     Ok(())
 }
 
-/// Turns all references of an object, none of which is turned yet. Where it stands in the regions, no read is counted,
-/// and else at most 4 for each 4 bytes of it, and 16 more. After `AllocError` some first ones are turned.
+/// Turns all references of an object, none of which is turned yet. Where it stands in the regions or in the large window,
+/// no read is counted, and else at most 4 for each 4 bytes of it, and 16 more. After `AllocError` some first ones are turned.
 pub fn turn_object(
     frames: &mut Frames,
     classes: &Classes,
@@ -105,7 +106,7 @@ pub fn turn_object(
         → (k : ℕ) × HoldsRaws classes.now (view_of frames.new t.0) (turned_where raws (λ b. is_first_reference classes.now (raws.raw at.0).shape at.0 k b || done b))) }
     ensures keeps { (raws : Raws) (done may : ℕ → Bool) → IsTurnable classes.now (view_of frames.old t.0) raws done at.0 → Covers may at.0 (raw_size classes.now raws at.0)
         → Keeps frames.old frames.new t.0 may }
-    ensures reads { in_regions at.0 ≡ true → frames.new.reads ≡ frames.old.reads }
+    ensures reads { region_base ≤ at.0 → frames.new.reads ≡ frames.old.reads }
     ensures bounded { IsSound frames.old → (raws : Raws) (done : ℕ → Bool) → IsTurnable classes.now (view_of frames.old t.0) raws done at.0
         → RoseBy (raw_size classes.now raws at.0 + 16) frames.old.reads frames.new.reads }
     ensures succeeds { (raws : Raws) (done : ℕ → Bool) → IsTurnable classes.now (view_of frames.old t.0) raws done at.0

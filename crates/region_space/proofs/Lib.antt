@@ -6,3 +6,4 @@ pub mod DropLemmas
 pub mod CountLemmas
 pub mod LieLemmas
 pub mod PackedLemmas
+pub mod ObjectLemmas

@@ -118,7 +118,7 @@ pub record Both (P Q : Row → Type 0) (row : Row) : Type 0 where
   pub one : P row
   pub two : Q row
 
-all-both : (P Q : Row → Type 0) (rows : List Row) → All P rows → All Q rows → All (Both P Q) rows
+pub all-both : (P Q : Row → Type 0) (rows : List Row) → All P rows → All Q rows → All (Both P Q) rows
 all-both P Q rows one two = λ k d within. record { one = one k d within; two = two k d within }
 
 apart-from : (region fill at size a n : ℕ) (row : Row) → at ≡ base_of region + fill → fill + size ≤ region_bytes → row.fill ≤ region_bytes → (row.region ≢ region) ⊎ (row.fill ≡ fill)
@@ -144,13 +144,13 @@ placed-beside old new at size a n space is places object =
 
 -- THEIR PAGES
 
-filled-within : (s : Lists) → IsSpace s → All (λ (row : Row). row.region < s.count) (filled s)
+pub filled-within : (s : Lists) → IsSpace s → All (λ (row : Row). row.region < s.count) (filled s)
 filled-within s space =
     let regions = λ (rows : List Row). map (λ (row : Row). row.region) rows in
     let split : regions (filled s) ≡ regions s.in_use ++ regions s.from = map-append (λ (row : Row). row.region) s.in_use s.from in
     all-regions (λ n. n < s.count) (filled s) (subst (All (λ n. n < s.count)) (sym split) (all-left (λ n. n < s.count) (regions s.in_use ++ regions s.from) s.free space.lists.within))
 
-any-holds : (rows : List Row) (a n i : ℕ) → list_any (lies_in a n) rows ≡ true → i < n → list_any (holds_page (page_of (a + i))) rows ≡ true
+pub any-holds : (rows : List Row) (a n i : ℕ) → list_any (lies_in a n) rows ≡ true → i < n → list_any (holds_page (page_of (a + i))) rows ≡ true
 any-holds [] a n i there inside_of = absurd (false≢true there)
 any-holds (row ∷ rest) a n i there inside_of = by (cases_Bool (lies_in a n row)) (λ later. any-holds rest a n i later inside_of)
   where

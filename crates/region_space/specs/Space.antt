@@ -1,6 +1,6 @@
 -- The region space: which regions are in use and how far they are filled, where the next object stands, and which pages
 -- hold bytes of objects.
-use Rattle.std.specs.Prelude.{◌≡◌, ℕ, ◌+◌, ◌-◌, ◌*◌, ◌%◌, ◌≤◌, Bool, true, false, ◌&&◌, IsTrue, List, [], ◌∷◌, ◌++◌, All, Option, None, Some, if◌then◌else◌, nat_le, nat_lt}
+use Rattle.std.specs.Prelude.{◌≡◌, ℕ, ◌+◌, ◌-◌, ◌*◌, ◌%◌, ◌≤◌, Bool, true, false, ◌&&◌, IsTrue, List, [], ◌∷◌, ◌++◌, All, Option, None, Some, if◌then◌else◌, map, sum, nat_le, nat_lt}
 use Rattle.std.specs.List.{list_any}
 use Rattle.model_numbers.specs.Numbers.{most_regions, region_base, region_bytes}
 use Rattle.page_tables.specs.declared.address.Window.TheVariants.{Regions}
@@ -8,6 +8,23 @@ use Rattle.page_tables.specs.Address.{is_in, page_of}
 use Rattle.cow_pages.specs.Memory.{Memory, is_mapped, HasOneSharer}
 use Rattle.image_space.specs.Space.{pages_up_to}
 use Rattle.region_lists.specs.Rows.{IsLists, Lists, Row, last_of, with_last}
+
+-- a space: the lists of its regions, and how many objects stand in the regions in use and in the from regions
+pub record Space : Type 0 where
+  pub in_use : List Row
+  pub from : List Row
+  pub free : List ℕ
+  pub count : ℕ
+  pub objects : ℕ
+  pub from_objects : ℕ
+
+-- its lists alone
+abbrev pub lists_of : Space → Lists
+lists_of s = record { in_use = s.in_use; from = s.from; free = s.free; count = s.count }
+
+-- lists whose regions hold so many objects
+abbrev pub space_of : Lists → ℕ → ℕ → Space
+space_of s objects from_objects = record { in_use = s.in_use; from = s.from; free = s.free; count = s.count; objects = objects; from_objects = from_objects }
 
 -- a size that an object in a region may have
 pub record IsSize (size : ℕ) : Type 0 where
@@ -80,6 +97,14 @@ pub record IsSpace (s : Lists) : Type 0 where
   pub some : 2 ≤ s.count
   pub few : s.count ≤ 2 * most_regions
   pub filled : All IsFilled (filled s)
+
+-- how many bytes the rows' objects have
+abbrev pub fill_sum : List Row → ℕ
+fill_sum rows = sum (map (λ row. row.fill) rows)
+
+-- the rows have bytes for so many objects: each has at least 8
+abbrev pub HasBytesFor : List Row → ℕ → Type 0
+HasBytesFor rows objects = 8 * objects ≤ fill_sum rows
 
 -- an object of this size was placed at this address, behind all others, in the last region in use or in one that was free
 pub record Places (old new : Lists) (at size : ℕ) : Type 0 where

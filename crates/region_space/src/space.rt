@@ -1,14 +1,14 @@
 //! The region space, and the pages that hold its objects.
-ghost use Rattle.std.specs.Prelude.{◌≡◌, ◌+◌, ◌*◌, ◌<◌, ◌≤◌, ◌∷◌, if◌then◌else◌, [], length, IsTrue, IsOk, IfOk, OnOk, OnErr, option_map};
+ghost use Rattle.std.specs.Prelude.{◌≡◌, ◌+◌, ◌*◌, ◌<◌, ◌≤◌, ◌∷◌, if◌then◌else◌, [], length, IsTrue, IsOk, IfOk, OnOk, OnErr, is_some, option_map};
 ghost use Rattle.model_numbers.specs.Numbers.{most_regions, region_count};
 ghost use Rattle.cow_pages.specs.Memory.{is_live, IsSound};
 ghost use Rattle.cow_pages.specs.Only.{OnlyTable};
 ghost use Rattle.cow_pages.specs.View.{view_of, OthersSeen};
 ghost use Rattle.page_runs.specs.Runs.{MapsRun, SeesRun};
-ghost use Rattle.region_lists.specs.Rows.{IsLists, first_of, last_of};
+ghost use Rattle.region_lists.specs.Rows.{IsLists, first_of, last_of, row_behind, row_of};
 ghost use Rattle.image_space.specs.Space.{pages_up_to};
 ghost use Rattle.region_space.specs.Pages.{IsObjectIn, LosesRows, ReleasesRows, next_in, page_sum};
-ghost use Rattle.region_space.specs.Space.{AreAlone, HasPages, IsSize, IsSpace, Places, base_of, fill_if, filled, further_from, further_pages, has_room, spot_in, with_object, would_open};
+ghost use Rattle.region_space.specs.Space.{AreAlone, HasPages, IsSize, IsSpace, Places, base_of, fill_if, filled, further_from, further_pages, has_room, lists_of, spot_in, with_object, would_open};
 
 use cow_pages::{Addr, Frames, PageNo, TableNo};
 use model_numbers::{PAGE_BYTES, REGION_BASE, REGION_BYTES};
@@ -25,19 +25,21 @@ pub struct Regions {
     lists: RegionLists,
     /// How many pages are mapped.
     pages: u32,
+    /// How many objects stand in the regions in use, and in the from regions.
+    objects: u32,
+    from_objects: u32,
 }
 
 impl Model for Regions {
-    ghost use Rattle.region_lists.specs.Rows.{Lists};
     ghost use Rattle.region_space.specs.Pages.{page_sum};
-    ghost use Rattle.region_space.specs.Space.{IsSpace, filled};
+    ghost use Rattle.region_space.specs.Space.{HasBytesFor, IsSpace, Space, filled, space_of};
     ghost use Rattle.std.specs.Prelude.{◌≡◌};
 
-    ghost Value = { Lists };
+    ghost Value = { Space };
 
-    ghost view = { λ s. s.lists };
+    ghost view = { λ s. space_of s.lists s.objects s.from_objects };
 
-    ghost invariant = { λ s. IsSpace s.lists × (s.pages ≡ page_sum (filled s.lists)) };
+    ghost invariant = { λ s. IsSpace s.lists × (s.pages ≡ page_sum (filled s.lists)) × HasBytesFor s.lists.in_use s.objects };
 }
 
 impl Regions {
@@ -48,20 +50,37 @@ impl Regions {
         ensures in_use { IfOk result (λ s. s.in_use ≡ []) }
         ensures from { IfOk result (λ s. s.from ≡ []) }
         ensures count { IfOk result (λ s. s.count ≡ 2 * regions) }
-        ensures space { IfOk result (λ s. IsSpace s) }
+        ensures objects { IfOk result (λ s. (s.objects ≡ 0) × (s.from_objects ≡ 0)) }
+        ensures space { IfOk result (λ s. IsSpace (lists_of s)) }
     {
         Ok(Regions {
             lists: RegionLists::new(alloc, 2 * regions)?,
             pages: 0,
+            objects: 0,
+            from_objects: 0,
         })
     }
 
     /// How many regions are in use.
     pub fn used(&self) -> u32
         ensures used { result ≡ length self.now.in_use }
-        ensures space { IsSpace self.now }
+        ensures space { IsSpace (lists_of self.now) }
     {
         self.lists.used()
+    }
+
+    /// How many objects stand in the regions in use.
+    pub fn objects(&self) -> u32
+        ensures { result ≡ self.now.objects }
+    {
+        self.objects
+    }
+
+    /// How many objects stand in the from regions.
+    pub fn from_objects(&self) -> u32
+        ensures { result ≡ self.now.from_objects }
+    {
+        self.from_objects
     }
 
     /// How many regions an object of `size` bytes opens: 0 or 1.
@@ -86,16 +105,17 @@ impl Regions {
         requires no_from { self.old.from ≡ [] }
         requires room { 2 * (length self.old.in_use + would_open self.old.in_use size) ≤ self.old.count }
         requires live { IsTrue (is_live frames.old t.0) }
-        requires pages { HasPages frames.old t.0 (filled self.old) }
-        ensures places { IfOk result (λ at. Places self.old self.new at.0 size) }
+        requires pages { HasPages frames.old t.0 (filled (lists_of self.old)) }
+        ensures places { IfOk result (λ at. Places (lists_of self.old) (lists_of self.new) at.0 size) }
+        ensures objects { OnOk result ((self.new.objects ≡ self.old.objects + 1) × (self.new.from_objects ≡ self.old.from_objects)) }
         ensures maps { IfOk result (λ at. MapsRun frames.old frames.new t.0 (further_from self.old.in_use at.0 size) (further_pages self.old.in_use size)) }
         ensures view { IfOk result (λ at. SeesRun (view_of frames.old t.0) (view_of frames.new t.0) (further_from self.old.in_use at.0 size) (further_pages self.old.in_use size)) }
         ensures others_seen { OnOk result (OthersSeen frames.old frames.new t.0) }
         ensures only { OnlyTable frames.old frames.new t.0 }
         ensures enough { further_pages self.old.in_use size ≤ frames.old.spare → IsOk result }
         ensures err { OnErr result ((self.new ≡ self.old) × (frames.new ≡ frames.old)) }
-        ensures pages { HasPages frames.new t.0 (filled self.new) }
-        ensures space { IsSpace self.new }
+        ensures pages { HasPages frames.new t.0 (filled (lists_of self.new)) }
+        ensures space { IsSpace (lists_of self.new) }
         ensures sound { IsSound frames.old → IsSound frames.new }
     {
         frames.reserve(self.further_pages(size) as usize)?;
@@ -109,14 +129,15 @@ impl Regions {
         requires room { length self.old.in_use + would_open self.old.in_use size + length self.old.from ≤ self.old.count }
         requires spare { further_pages self.old.in_use size ≤ frames.old.spare }
         requires live { IsTrue (is_live frames.old t.0) }
-        requires pages { HasPages frames.old t.0 (filled self.old) }
-        ensures places { Places self.old self.new result.0 size }
+        requires pages { HasPages frames.old t.0 (filled (lists_of self.old)) }
+        ensures places { Places (lists_of self.old) (lists_of self.new) result.0 size }
+        ensures objects { (self.new.objects ≡ self.old.objects + 1) × (self.new.from_objects ≡ self.old.from_objects) }
         ensures maps { MapsRun frames.old frames.new t.0 (further_from self.old.in_use result.0 size) (further_pages self.old.in_use size) }
         ensures view { SeesRun (view_of frames.old t.0) (view_of frames.new t.0) (further_from self.old.in_use result.0 size) (further_pages self.old.in_use size) }
         ensures others_seen { OthersSeen frames.old frames.new t.0 }
         ensures only { OnlyTable frames.old frames.new t.0 }
-        ensures pages { HasPages frames.new t.0 (filled self.new) }
-        ensures space { IsSpace self.new }
+        ensures pages { HasPages frames.new t.0 (filled (lists_of self.new)) }
+        ensures space { IsSpace (lists_of self.new) }
         ensures sound { IsSound frames.new }
     {
         let row = next_row(&mut self.lists, size);
@@ -128,31 +149,34 @@ impl Regions {
         prove!(count as usize <= spare);
         map_reserved(frames, t, PageNo(base / PAGE_BYTES + mapped), count);
         self.pages += count;
+        self.objects += 1;
         Addr(base + row.fill)
     }
 
     /// Makes all regions in use from regions. There are no from regions before.
     pub fn flip(&mut self)
         requires { self.old.from ≡ [] }
-        ensures flips { self.new ≡ record self.old { in_use = []; from = self.old.in_use } }
-        ensures space { IsSpace self.new }
+        ensures flips { self.new ≡ record self.old { in_use = []; from = self.old.in_use; objects = 0; from_objects = self.old.objects } }
+        ensures space { IsSpace (lists_of self.new) }
     {
         self.lists.flip();
+        self.from_objects = self.objects;
+        self.objects = 0;
     }
 
     /// Unmaps the pages of the from regions, each of which has its frame alone, and frees them and their regions.
     pub fn drop_from(&mut self, frames: &mut Frames, t: TableNo)
         requires live { IsTrue (is_live frames.old t.0) }
-        requires pages { HasPages frames.old t.0 (filled self.old) }
+        requires pages { HasPages frames.old t.0 (filled (lists_of self.old)) }
         requires alone { AreAlone frames.old t.0 self.old.from }
-        ensures no_from { self.new.from ≡ [] }
-        ensures rest { (self.new.in_use ≡ self.old.in_use) × (self.new.count ≡ self.old.count) }
+        ensures no_from { (self.new.from ≡ []) × (self.new.from_objects ≡ 0) }
+        ensures rest { (self.new.in_use ≡ self.old.in_use) × (self.new.count ≡ self.old.count) × (self.new.objects ≡ self.old.objects) }
         ensures releases { ReleasesRows frames.old frames.new t.0 self.old.from }
         ensures view { LosesRows (view_of frames.old t.0) (view_of frames.new t.0) self.old.from }
         ensures others_seen { OthersSeen frames.old frames.new t.0 }
         ensures only { OnlyTable frames.old frames.new t.0 }
-        ensures pages { HasPages frames.new t.0 (filled self.new) }
-        ensures space { IsSpace self.new }
+        ensures pages { HasPages frames.new t.0 (filled (lists_of self.new)) }
+        ensures space { IsSpace (lists_of self.new) }
         ensures sound { IsSound frames.old → IsSound frames.new }
     {
         while let Some(row) = self.lists.first_from() {
@@ -161,12 +185,13 @@ impl Regions {
             self.lists.free_first();
             self.pages -= count;
         }
+        self.from_objects = 0;
     }
 
     /// How many pages hold bytes of objects, in the regions in use and from.
     pub fn pages(&self) -> u32
-        ensures pages { result ≡ page_sum (filled self.now) }
-        ensures space { IsSpace self.now }
+        ensures pages { result ≡ page_sum (filled (lists_of self.now)) }
+        ensures space { IsSpace (lists_of self.now) }
     {
         self.pages
     }
@@ -195,6 +220,21 @@ impl Regions {
         Some(Addr(base_of(row.region)))
     }
 
+    /// The region in use that was opened first, by its number.
+    pub fn first_region(&self) -> Option<u32>
+        ensures { result ≡ option_map (λ row. row.region) (first_of self.now.in_use) }
+    {
+        Some(self.lists.first()?.region)
+    }
+
+    /// The region in use that was opened directly after this one, which is in use, by its number.
+    pub fn region_behind(&self, region: u32) -> Option<u32>
+        requires { IsTrue (is_some (row_of self.now.in_use region)) }
+        ensures { result ≡ option_map (λ row. row.region) (row_behind self.now.in_use region) }
+    {
+        Some(self.lists.behind(region)?.region)
+    }
+
     /// An equal space.
     pub fn copied(&self) -> Result<Regions, AllocError>
         ensures { IfOk result (λ copy. copy ≡ self.now) }
@@ -202,6 +242,8 @@ impl Regions {
         Ok(Regions {
             lists: self.lists.copied()?,
             pages: self.pages,
+            objects: self.objects,
+            from_objects: self.from_objects,
         })
     }
 
@@ -209,7 +251,7 @@ impl Regions {
     fn further_pages(&self, size: u32) -> u32
         requires { IsSize size }
         ensures pages { result ≡ further_pages self.now.in_use size }
-        ensures space { IsSpace self.now }
+        ensures space { IsSpace (lists_of self.now) }
     {
         let fill = match self.lists.last() {
             Some(row) if row.fill + size <= REGION_BYTES => row.fill,

@@ -107,7 +107,7 @@ impl ZygoteSpace {
         ensures pages { HasPagesUpTo frames.new t.0 (end_of self.new) }
         ensures full { zygote_length < to_page self.old.fill + total → (result ≡ Err (ZygoteError.Full (to_page self.old.fill) total)) × (frames.new ≡ frames.old) }
         ensures err { IfErr result (λ e. (zygote_length < to_page self.old.fill + total) ⊎ (e ≡ ZygoteError.OutOfMemory)) }
-        ensures same { IfErr result (λ _. (self.new ≡ self.old) × KeepsPages frames.old frames.new) }
+        ensures same { IfErr result (λ _. (self.new ≡ self.old) × KeepsPages frames.old frames.new (pages_up_to total)) }
         ensures space { IsSpace self.new }
         ensures sound { IsSound frames.old → IsSound frames.new }
     {

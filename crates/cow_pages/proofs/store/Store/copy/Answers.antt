@@ -1,4 +1,4 @@
-use Rattle.std.proofs.Common.{rules, ◌≡◌, ◌≤◌, ◌/◌, ◌%◌, ◌-◌, [], length, get_or, set, Some, true≢false, sym, ap, subst, ◌∙◌, inl, inr, arith}
+use Rattle.std.proofs.Common.{rules, ◌≡◌, ◌≤◌, ◌<◌, ◌^◌, ◌/◌, ◌%◌, ◌-◌, [], length, get_or, set, Some, true≢false, sym, ap, subst, ◌∙◌, inl, inr, arith}
 use Rattle.std.specs.Prelude.{is_ok}
 use Rattle.std.proofs.lemmas.Bool.{cases_lt}
 use Rattle.cow_pages.specs.Memory.{IsShared}
@@ -8,7 +8,7 @@ use Rattle.cow_pages.specs.Store.{leaf_grid, shown, spare_of, CountsSlots}
 use Rattle.cow_pages.specs.Steps.{OwnsEntry}
 use Rattle.page_tables.proofs.WindowLemmas.{window_below}
 use Rattle.cow_pages.proofs.SharedLemmas.{leaf_length, stands}
-use Rattle.cow_pages.proofs.SoundLemmas.{leaf_there, entry_within}
+use Rattle.cow_pages.proofs.SoundLemmas.{leaf_there, entry_within, frame_fits}
 use Rattle.cow_pages.proofs.SeenLemmas.{live-shown}
 use Rattle.cow_pages.proofs.ReadLemmas.{live_there, place_live}
 use Rattle.cow_pages.proofs.RoomLemmas.{on_err}
@@ -53,6 +53,7 @@ set_slot-requires c =
     record {
       within = omega (arith, leaf_there m1 ready.kept c.args.t i l ready.place, ap (λ (it : Store). length it.leaves.items) c.take_copy-number.ensures.rest);
       slot = omega arith;
+      fits = subst (λ n. n < 2 ^ 32 - 1) (sym (ap (λ (e : Entry). e.frame) c.new-own.ensures)) (frame_fits m1 ready.room c.take_copy-number.result c.take_copy-number.ensures.number.0);
       len = ap (λ (it : Store). length (get_or (leaf_grid it) l [])) c.take_copy-number.ensures.rest ∙ leaf_length m1 ready.kept c.args.t i l ready.place;
       slots = subst CountsSlots (sym c.take_copy-number.ensures.rest) ready.slots;
     }

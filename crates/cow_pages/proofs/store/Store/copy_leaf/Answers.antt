@@ -1,6 +1,6 @@
 use Rattle.std.proofs.Common.{ℕ, List, [], length, get_or, None, is_some, ap, ◌∙◌, arith}
 use Rattle.std.proofs.lemmas.List.{length-set, length-map}
-use Rattle.page_tables.specs.declared.leaf.Leaf.{Leaf}
+use Rattle.page_tables.specs.Leaf.{Leaf}
 use Rattle.cow_pages.specs.declared.store.Store.{Store}
 use Rattle.cow_pages.specs.Store.{table_grid}
 use Rattle.page_tables.proofs.GridLemmas.{cell-column}

@@ -1,8 +1,7 @@
 use Rattle.std.proofs.Common.{length, set, refl, sym, ap, ◌∙◌, arith}
 use Rattle.std.specs.Vec.{with_item}
-use Rattle.page_tables.specs.declared.leaf.Leaf.{Leaf}
 use Rattle.cow_pages.specs.declared.store.Store.{Store}
-use Rattle.page_tables.specs.Leaf.{no_leaf}
+use Rattle.page_tables.specs.Leaf.{Leaf, no_leaf}
 use Rattle.cow_pages.proofs.StoreLemmas.{row_frames}
 use Rattle.cow_pages.proofs.EndLemmas.{row_held, row_there, row_whole}
 use Rattle.cow_pages.proofs.store.Store.empty_own.Goals as goal

@@ -1,11 +1,11 @@
-use Rattle.std.proofs.Common.{◌/◌, ◌%◌, [], length, get_or, set, Some, None, sym, ap, subst, ◌∙◌, arith}
+use Rattle.std.proofs.Common.{◌/◌, ◌%◌, ◌-◌, ◌<◌, ◌^◌, [], length, get_or, set, Some, None, sym, ap, subst, ◌∙◌, arith}
 use Rattle.page_tables.specs.declared.leaf.Entry.{Entry}
 use Rattle.cow_pages.specs.declared.store.Store.{Store}
 use Rattle.cow_pages.specs.Store.{leaf_grid, CountsSlots}
 use Rattle.cow_pages.specs.Steps.{Recounts}
 use Rattle.page_tables.proofs.WindowLemmas.{window_below}
 use Rattle.cow_pages.proofs.SharedLemmas.{leaf_length}
-use Rattle.cow_pages.proofs.SoundLemmas.{leaf_there}
+use Rattle.cow_pages.proofs.SoundLemmas.{leaf_there, frame_fits}
 use Rattle.cow_pages.proofs.ReadLemmas.{place_live}
 use Rattle.cow_pages.proofs.EntryLemmas.{counted_at}
 use Rattle.cow_pages.proofs.MapLemmas.{mapped_steps}
@@ -23,6 +23,7 @@ set_slot-requires c =
     record {
       within = omega (arith, leaf_there s ready.kept c.args.t i c.args.leaf ready.place, ap (λ (it : Store). length it.leaves.items) c.take_zeros-number.ensures.rest);
       slot = omega arith;
+      fits = subst (λ n. n < 2 ^ 32 - 1) (sym (ap (λ (e : Entry). e.frame) c.new.ensures)) (frame_fits s ready.room c.take_zeros-number.result c.take_zeros-number.ensures.holds.within);
       len = ap (λ (it : Store). length (get_or (leaf_grid it) c.args.leaf [])) c.take_zeros-number.ensures.rest ∙ leaf_length s ready.kept c.args.t i c.args.leaf ready.place;
       slots = subst CountsSlots (sym c.take_zeros-number.ensures.rest) ready.slots;
     }

@@ -1,5 +1,6 @@
-use Rattle.std.proofs.Common.{◌/◌, ◌%◌, ℕ, Option, sym, ap, ◌∙◌}
+use Rattle.std.proofs.Common.{◌/◌, ◌%◌, ℕ, Option, is_some, sym, ap, ◌∙◌}
 use Rattle.std.proofs.lemmas.Option.{none-some}
+use Rattle.page_tables.specs.declared.leaf.Entry.{Entry}
 use Rattle.cow_pages.specs.Store.{table_grid, entry_in}
 use Rattle.page_tables.proofs.GridLemmas.{cell-column}
 use Rattle.cow_pages.proofs.SharedLemmas.{stands}
@@ -28,16 +29,16 @@ unreachable-requires c =
     let st = stands s c.args.t c.args.page e.0 e.1 in
     none-some st.leaf (sym c.in_default.is ∙ c.place.ensures ∙ st.place)
 
-pub slot-requires-clause-leaf : goal.slot-requires-clause-leaf
-slot-requires-clause-leaf c = leaf_there c.args.self.now c.requires.store.kept c.args.t (c.args.page / 1024) c.in-Some.leaf (sym c.place.ensures ∙ c.in-Some.is)
+pub mapped_slot-requires-clause-leaf : goal.mapped_slot-requires-clause-leaf
+mapped_slot-requires-clause-leaf c = leaf_there c.args.self.now c.requires.store.kept c.args.t (c.args.page / 1024) c.in-Some.leaf (sym c.place.ensures ∙ c.in-Some.is)
 
-pub unreachable-requires-in-None : goal.unreachable-requires-in-None
-unreachable-requires-in-None c =
+pub mapped_slot-requires-clause-mapped : goal.mapped_slot-requires-clause-mapped
+mapped_slot-requires-clause-mapped c =
     let s = c.args.self.now in
     let e = mapped_entry s c.requires.store c.args.t c.args.page c.requires.mapped in
     let at = ap (λ (o : Option ℕ). entry_in s o (c.args.page % 1024)) (sym c.place.ensures ∙ c.in-Some.is) in
-    none-some e.0 (sym (at ∙ sym c.slot.ensures ∙ c.in-None.is) ∙ e.1)
+    ap (λ (o : Option Entry). is_some o) (sym at ∙ e.1)
 
 pub returns : goal.returns
 returns c =
-    ap (λ (o : Option ℕ). entry_in c.args.self.now o (c.args.page % 1024)) (sym c.place.ensures ∙ c.in-Some.is) ∙ sym c.slot.ensures ∙ c.in-Some-slot.is
+    ap (λ (o : Option ℕ). entry_in c.args.self.now o (c.args.page % 1024)) (sym c.place.ensures ∙ c.in-Some.is) ∙ c.mapped_slot.ensures

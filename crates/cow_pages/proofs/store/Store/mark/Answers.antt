@@ -1,4 +1,4 @@
-use Rattle.std.proofs.Common.{◌/◌, ◌%◌, [], get_or, set, Some, sym, ap, subst, ◌∙◌}
+use Rattle.std.proofs.Common.{◌/◌, ◌%◌, ◌-◌, ◌<◌, ◌^◌, [], get_or, set, Some, sym, ap, subst, ◌∙◌}
 use Rattle.std.proofs.lemmas.Option.{none-some}
 use Rattle.page_tables.specs.declared.leaf.Entry.{Entry}
 use Rattle.cow_pages.specs.declared.store.Store.{Store}
@@ -7,7 +7,7 @@ use Rattle.cow_pages.specs.Steps.{Recounts}
 use Rattle.page_tables.proofs.WindowLemmas.{window_below}
 use Rattle.page_tables.proofs.GridLemmas.{cell-column}
 use Rattle.cow_pages.proofs.SharedLemmas.{leaf_length, stands}
-use Rattle.cow_pages.proofs.SoundLemmas.{leaf_there}
+use Rattle.cow_pages.proofs.SoundLemmas.{leaf_there, entry_fits}
 use Rattle.cow_pages.proofs.ReadLemmas.{place_live}
 use Rattle.cow_pages.proofs.EntryLemmas.{counted_at}
 use Rattle.cow_pages.proofs.SlotLemmas.{counted_at-same, one_counts, lone_shown}
@@ -37,6 +37,10 @@ unreachable-requires c =
 
 pub set_slot-requires-clause-within : goal.set_slot-requires-clause-within
 set_slot-requires-clause-within c = leaf_there c.args.self.now c.requires.store.kept c.args.t (c.args.page / 1024) c.in-Some.leaf (sym c.place.ensures ∙ c.in-Some.is)
+
+pub set_slot-requires-clause-fits : goal.set_slot-requires-clause-fits
+set_slot-requires-clause-fits c =
+    subst (λ n. n < 2 ^ 32 - 1) (sym (ap (λ (e : Entry). e.frame) c.with_flag.ensures)) (entry_fits c.args.self.now c.requires.store.kept c.requires.store.room c.args.t c.args.page c.args.entry c.requires.there)
 
 pub set_slot-requires-clause-len : goal.set_slot-requires-clause-len
 set_slot-requires-clause-len c = leaf_length c.args.self.now c.requires.store.kept c.args.t (c.args.page / 1024) c.in-Some.leaf (sym c.place.ensures ∙ c.in-Some.is)

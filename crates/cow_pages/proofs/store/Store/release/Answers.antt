@@ -1,6 +1,6 @@
 use Rattle.std.proofs.Common.{◌≢◌, ◌<◌, ◌/◌, sym, ◌∙◌, arith}
 use Rattle.std.proofs.lemmas.Option.{none-some}
-use Rattle.page_tables.specs.declared.leaf.Leaf.{Leaf}
+use Rattle.page_tables.specs.Leaf.{Leaf}
 use Rattle.cow_pages.specs.Store.{table_grid, pages_kept}
 use Rattle.page_tables.proofs.ListLemmas.{field-was}
 use Rattle.page_tables.proofs.GridLemmas.{cell-column}
@@ -51,11 +51,11 @@ leave-requires c =
     let within = leaf_there m c.unmap.ensures.ready.kept c.args.t (c.args.page / 1024) l c.unmap.ensures.ready.place in
     record {
       ready = c.unmap.ensures.ready;
-      empty = field-was (λ (it : Leaf). it.mapped) m.leaves.items l c.index.result.now 0 within c.index.ensures ∙ c.if-index-eq0.true;
+      empty = field-was (λ (it : Leaf). it.mapped) m.leaves.items l c.index.result.now 0 within c.index.ensures ∙ sym c.mapped.ensures ∙ c.if-mapped-eq0.true;
     }
 
-pub returns-then-index-eq0 : goal.returns-then-index-eq0
-returns-then-index-eq0 c =
+pub returns-then-mapped-eq0 : goal.returns-then-mapped-eq0
+returns-then-mapped-eq0 c =
     let s = c.args.self.now in
     let m = c.unmap.new.self in
     let new = c.leave.new.self in
@@ -63,14 +63,14 @@ returns-then-index-eq0 c =
     (record { kept = c.leave.ensures.counts.kept; live = c.leave.ensures.counts.live; len = c.leave.ensures.counts.len }) in
     record { store = all.store; unmapped = all.unmapped; rest = all.rest; leaf = all.leaf; room = all.room; freed = all.freed }
 
-pub returns-else-index-eq0 : goal.returns-else-index-eq0
-returns-else-index-eq0 c =
+pub returns-else-mapped-eq0 : goal.returns-else-mapped-eq0
+returns-else-mapped-eq0 c =
     let s = c.args.self.now in
     let m = c.unmap.new.self in
     let l = c.in-Some.leaf in
     let within = leaf_there m c.unmap.ensures.ready.kept c.args.t (c.args.page / 1024) l c.unmap.ensures.ready.place in
     let read = field-was (λ (it : Leaf). it.mapped) m.leaves.items l c.index.result.now 0 within c.index.ensures in
-    let none : pages_kept m l ≢ 0 = (λ zero. c.if-index-eq0.false (sym read ∙ zero)) in
+    let none : pages_kept m l ≢ 0 = (λ zero. c.if-mapped-eq0.false (c.mapped.ensures ∙ sym read ∙ zero)) in
     let some : 0 < pages_kept m l = omega (arith, none) in
     let all = released_stays s m c.args.t c.args.page l c.requires.store c.unmap.ensures.ready c.unmap.ensures.unmaps some in
     record { store = all.store; unmapped = all.unmapped; rest = all.rest; leaf = all.leaf; room = all.room; freed = all.freed }

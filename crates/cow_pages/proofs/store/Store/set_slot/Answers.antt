@@ -1,8 +1,7 @@
 use Rattle.std.proofs.Common.{List, Option, length, set, map, sym, ap, ◌∙◌}
 use Rattle.std.proofs.lemmas.List.{map-set}
 use Rattle.page_tables.specs.declared.leaf.Entry.{Entry}
-use Rattle.page_tables.specs.declared.leaf.Leaf.{Leaf}
-use Rattle.page_tables.specs.Leaf.{present}
+use Rattle.page_tables.specs.Leaf.{Leaf, present}
 use Rattle.page_tables.proofs.ListLemmas.{entry_read, field-was, field-other, slots-set}
 use Rattle.cow_pages.proofs.store.Store.set_slot.Goals as goal
 

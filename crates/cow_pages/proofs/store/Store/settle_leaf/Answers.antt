@@ -1,16 +1,11 @@
-use Rattle.std.proofs.Common.{◌≡◌, List, Option, [], length, get_or, set, map, refl, sym, ap, ◌∙◌, inl, inr}
+use Rattle.std.proofs.Common.{◌≡◌, List, Option, [], get_or, set, map, refl, sym, ap, ◌∙◌, inl, inr}
 use Rattle.std.proofs.lemmas.List.{map-set}
 use Rattle.std.proofs.lemmas.Bool.{cases_eq}
 use Rattle.page_tables.specs.declared.leaf.Entry.{Entry}
-use Rattle.page_tables.specs.declared.leaf.Leaf.{Leaf}
-use Rattle.page_tables.specs.Leaf.{present, cleared}
+use Rattle.page_tables.specs.Leaf.{Leaf, present, cleared}
 use Rattle.page_tables.proofs.LeafLemmas.{present-cleared}
 use Rattle.page_tables.proofs.ListLemmas.{entry_read, field-was, field-here, field-other, slots-set}
 use Rattle.cow_pages.proofs.store.Store.settle_leaf.Goals as goal
-
-pub settle-requires : goal.settle-requires
-settle-requires c =
-    sym (ap (λ (es : List (Option Entry)). length es) (entry_read c.args.self.now.leaves.items c.args.leaf c.index_mut.result.now c.requires.within c.index_mut.ensures.value)) ∙ c.requires.len
 
 pub returns-then-holders-eq1 : goal.returns-then-holders-eq1
 returns-then-holders-eq1 c =

@@ -1,4 +1,4 @@
-use Rattle.std.proofs.Common.{◌+◌, List, Some, None, [], length, get_or, Option, refl, ap, ◌∙◌, arith}
+use Rattle.std.proofs.Common.{◌+◌, List, Some, None, [], length, get_or, Option, refl, sym, ap, ◌∙◌, arith}
 use Rattle.sharers.specs.Shares.{count_of}
 use Rattle.page_tables.specs.declared.leaf.Entry.{Entry}
 use Rattle.cow_pages.specs.declared.store.Store.{Store}
@@ -22,13 +22,13 @@ index-requires c = omega (arith, c.requires.within, ap (λ (s : Store). length s
 pub share-requires-clause-within : goal.share-requires-clause-within
 share-requires-clause-within c =
     let e = c.in-Some.entry in
-    let is = read_slot c.args.self.now c.loop-i.self c.args.leaf c.loop-i.i c.index.result.now (Some e) (ap (λ (s : Store). s.leaves.items) c.loop-i.invariant.rest) c.requires.within c.index.ensures c.in-Some.is in
+    let is = read_slot c.args.self.now c.loop-i.self c.args.leaf c.loop-i.i c.index.result.now (Some e) (ap (λ (s : Store). s.leaves.items) c.loop-i.invariant.rest) c.requires.within c.index.ensures (sym c.entry.ensures ∙ c.in-Some.is) in
     omega (arith, (c.requires.frames c.loop-i.i e is).0, c.loop-i.invariant.len)
 
 pub share-requires-clause-held : goal.share-requires-clause-held
 share-requires-clause-held c =
     let e = c.in-Some.entry in
-    let is = read_slot c.args.self.now c.loop-i.self c.args.leaf c.loop-i.i c.index.result.now (Some e) (ap (λ (s : Store). s.leaves.items) c.loop-i.invariant.rest) c.requires.within c.index.ensures c.in-Some.is in
+    let is = read_slot c.args.self.now c.loop-i.self c.args.leaf c.loop-i.i c.index.result.now (Some e) (ap (λ (s : Store). s.leaves.items) c.loop-i.invariant.rest) c.requires.within c.index.ensures (sym c.entry.ensures ∙ c.in-Some.is) in
     omega (arith, (c.requires.frames c.loop-i.i e is).1, c.loop-i.invariant.sharers e.frame)
 
 pub share-requires-clause-fits : goal.share-requires-clause-fits
@@ -48,15 +48,15 @@ loop-i-preserved c =
     let mid = c.loop-i.self in
     let inv = c.loop-i.invariant in
     let same = ap (λ (s : Store). s.leaves.items) inv.rest in
-    elim c.match-index-i.branch [
+    elim c.match-entry.branch [
       | in-Some w ↦
           let e = w.in-Some.entry in
-          let is = read_slot s mid c.args.leaf c.loop-i.i c.index.result.now (Some e) same c.requires.within c.index.ensures w.in-Some.is in
-          share_step s mid c.match-index-i.self c.args.leaf c.loop-i.i e w.share.new.self inv (omega (arith, c.requires.len, c.loop-i-test.true)) is
+          let is = read_slot s mid c.args.leaf c.loop-i.i c.index.result.now (Some e) same c.requires.within c.index.ensures (sym c.entry.ensures ∙ w.in-Some.is) in
+          share_step s mid c.match-entry.self c.args.leaf c.loop-i.i e w.share.new.self inv (omega (arith, c.requires.len, c.loop-i-test.true)) is
           (omega (arith, (c.requires.frames c.loop-i.i e is).0, inv.len)) w.share.ensures.counts w.share.ensures.spare w.share.ensures.tallied w.self-is
       | in_default w ↦
-          share_none s mid c.match-index-i.self c.args.leaf c.loop-i.i inv (omega (arith, c.requires.len, c.loop-i-test.true))
-          (read_slot s mid c.args.leaf c.loop-i.i c.index.result.now None same c.requires.within c.index.ensures w.in_default.is) w.self-is
+          share_none s mid c.match-entry.self c.args.leaf c.loop-i.i inv (omega (arith, c.requires.len, c.loop-i-test.true))
+          (read_slot s mid c.args.leaf c.loop-i.i c.index.result.now None same c.requires.within c.index.ensures (sym c.entry.ensures ∙ w.in_default.is)) w.self-is
     ]
 
 pub returns : goal.returns

@@ -21,6 +21,7 @@ set_slot-requires c =
     record {
       within = leaf_there s store.kept c.args.t i c.args.leaf c.requires.place;
       slot = omega arith;
+      fits = tt;
       len = leaf_length s store.kept c.args.t i c.args.leaf c.requires.place;
       slots = store.slots;
     }

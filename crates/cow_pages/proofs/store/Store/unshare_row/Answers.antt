@@ -23,14 +23,14 @@ index-requires c = omega (arith, c.requires.within, ap (λ (s : Store). length s
 pub unshare-requires-clause-within : goal.unshare-requires-clause-within
 unshare-requires-clause-within c =
     let e = c.in-Some.entry in
-    let is = read_slot c.args.self.now c.loop-i.self c.args.leaf c.loop-i.i c.index.result.now (Some e) (ap (λ (s : Store). s.leaves.items) c.loop-i.invariant.rest) c.requires.within c.index.ensures c.in-Some.is in
+    let is = read_slot c.args.self.now c.loop-i.self c.args.leaf c.loop-i.i c.index.result.now (Some e) (ap (λ (s : Store). s.leaves.items) c.loop-i.invariant.rest) c.requires.within c.index.ensures (sym c.entry.ensures ∙ c.in-Some.is) in
     omega (arith, c.requires.frames c.loop-i.i e is, c.loop-i.invariant.len)
 
 pub unshare-requires-clause-held : goal.unshare-requires-clause-held
 unshare-requires-clause-held c =
     let s = c.args.self.now in
     let e = c.in-Some.entry in
-    let is = read_slot s c.loop-i.self c.args.leaf c.loop-i.i c.index.result.now (Some e) (ap (λ (s : Store). s.leaves.items) c.loop-i.invariant.rest) c.requires.within c.index.ensures c.in-Some.is in
+    let is = read_slot s c.loop-i.self c.args.leaf c.loop-i.i c.index.result.now (Some e) (ap (λ (s : Store). s.leaves.items) c.loop-i.invariant.rest) c.requires.within c.index.ensures (sym c.entry.ensures ∙ c.in-Some.is) in
     unshares_there frame_key s.frame_counts c.loop-i.self.frame_counts (get_or (leaf_grid s) c.args.leaf []) c.loop-i.i e c.loop-i.invariant.sharers (omega (arith, c.requires.len, c.loop-i-test.true)) is (c.requires.held e.frame)
 
 pub loop-i-preserved : goal.loop-i-preserved
@@ -40,20 +40,20 @@ loop-i-preserved c =
     let inv = c.loop-i.invariant in
     let row = get_or (leaf_grid s) c.args.leaf [] in
     let same = ap (λ (s : Store). s.leaves.items) inv.rest in
-    elim c.match-index-i.branch [
+    elim c.match-entry.branch [
       | in-Some w ↦
           let e = w.in-Some.entry in
-          let is = read_slot s mid c.args.leaf c.loop-i.i c.index.result.now (Some e) same c.requires.within c.index.ensures w.in-Some.is in
+          let is = read_slot s mid c.args.leaf c.loop-i.i c.index.result.now (Some e) same c.requires.within c.index.ensures (sym c.entry.ensures ∙ w.in-Some.is) in
           let some = unshares_there frame_key s.frame_counts mid.frame_counts row c.loop-i.i e inv.sharers (omega (arith, c.requires.len, c.loop-i-test.true)) is (c.requires.held e.frame) in
-          unshare_step s mid c.match-index-i.self c.args.leaf c.loop-i.i e w.unshare.new.self inv (omega (arith, c.requires.len, c.loop-i-test.true)) is some w.unshare.ensures.counts
+          unshare_step s mid c.match-entry.self c.args.leaf c.loop-i.i e w.unshare.new.self inv (omega (arith, c.requires.len, c.loop-i-test.true)) is some w.unshare.ensures.counts
           (elim (cases_eq (count_of mid.frame_counts e.frame) 1) [
             | inl one ↦ omega (arith, w.unshare.ensures.freed one)
             | inr more ↦ omega (arith, w.unshare.ensures.kept (omega (arith, some, more)))
           ])
           w.unshare.ensures.tallied w.self-is
       | in_default w ↦
-          unshare_none s mid c.match-index-i.self c.args.leaf c.loop-i.i inv (omega (arith, c.requires.len, c.loop-i-test.true))
-          (read_slot s mid c.args.leaf c.loop-i.i c.index.result.now None same c.requires.within c.index.ensures w.in_default.is) w.self-is
+          unshare_none s mid c.match-entry.self c.args.leaf c.loop-i.i inv (omega (arith, c.requires.len, c.loop-i-test.true))
+          (read_slot s mid c.args.leaf c.loop-i.i c.index.result.now None same c.requires.within c.index.ensures (sym c.entry.ensures ∙ w.in_default.is)) w.self-is
     ]
 
 pub returns : goal.returns

@@ -6,19 +6,21 @@ use Rattle.cow_pages.specs.View.{view_of}
 use Rattle.region_lists.specs.Rows.{Lists}
 use Rattle.region_lists.specs.Shown.{shown_row}
 use Rattle.region_space.specs.Pages.{LosesRows}
-use Rattle.region_space.specs.Space.{AreAlone, HasPages, filled, holds_page}
+use Rattle.region_space.specs.Space.{AreAlone, HasBytesFor, HasPages, Space, filled, holds_page, lists_of}
 use Rattle.region_space.proofs.DropLemmas.{alone-dropped, first-cons, first-filled, first-within, from-window, none-first, one-more, page-of-row, pages-dropped, released-more, released-none, row-mapped, rows-lost, rows-seen, run-held, run-of-row, space-dropped, sum-dropped}
 use Rattle.region_space.proofs.space.Regions.drop_from.Goals as goal
 
 pub loop-row-init : goal.loop-row-init
 loop-row-init c =
-    let is = sym c.self.view_is in
+    let is = sym (ap lists_of c.self.view_is) in
     record {
       done = [];
       from = ap (λ (it : Lists). it.from) is;
-      in_use = ap (λ (it : Lists). it.in_use) c.self.view_is;
-      count = ap (λ (it : Lists). it.count) c.self.view_is;
+      in_use = ap (λ (it : Lists). it.in_use) (ap lists_of c.self.view_is);
+      count = ap (λ (it : Lists). it.count) (ap lists_of c.self.view_is);
       space = c.self.invariant.0;
+      objects = ap (λ (it : Space). it.objects) c.self.view_is;
+      enough = c.self.invariant.2;
       pages = c.self.invariant.1;
       releases = released-none c.args.frames.now c.args.t.0;
       has = subst (λ (it : Lists). HasPages c.args.frames.now c.args.t.0 (filled it)) is c.requires.pages;
@@ -90,6 +92,8 @@ loop-row-preserved c =
       in_use = ap (λ (it : Lists). it.in_use) frees ∙ i.in_use;
       count = ap (λ (it : Lists). it.count) frees ∙ i.count;
       space = space-dropped s new row first.0 i.space first.1 c.free_first.ensures.lists frees;
+      objects = i.objects;
+      enough = subst (λ rows. HasBytesFor rows c.loop-row.self-inside.objects) (sym (ap (λ (it : Lists). it.in_use) frees)) i.enough;
       pages = omega (arith, sum-dropped s new row first.0 first.1 frees, i.pages, c.pages_up_to-count.ensures);
       releases = released-more c.args.frames.now mid end t i.done row i.releases run;
       has = subst (HasPages end t) (sym (ap filled frees)) (pages-dropped mid end t s row first.0 i.space first.1 i.has run);

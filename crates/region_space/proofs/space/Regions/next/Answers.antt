@@ -5,7 +5,7 @@ use Rattle.model_numbers.specs.Numbers.{region_base, region_bytes}
 use Rattle.page_tables.specs.declared.address.Addr.{Addr}
 use Rattle.region_lists.specs.Rows.{Lists, Row, row_behind, row_of}
 use Rattle.region_space.specs.Pages.{IsObjectIn, next_in, start_of}
-use Rattle.region_space.specs.Space.{IsSpace, base_of}
+use Rattle.region_space.specs.Space.{IsSpace, base_of, lists_of}
 use Rattle.region_space.proofs.WalkLemmas.{Found, Placed, behind-holds, found, in_use-apart, in_use-within, placed}
 use Rattle.region_space.proofs.space.Regions.next.Goals as goal
 
@@ -41,28 +41,28 @@ goes-on s now at size base fill i start fills =
 
 pub overflow_sub-region : goal.overflow_sub-region
 overflow_sub-region c =
-    let i = is-in c.self.inside.lists c.args.self.now c.args.at.0 c.args.size c.self.view_is c.self.invariant.0 c.requires in
+    let i = is-in c.self.inside.lists (lists_of c.args.self.now) c.args.at.0 c.args.size (ap lists_of c.self.view_is) c.self.invariant.0 c.requires in
     omega (arith, i.p.from)
 
 pub overflow_add-end : goal.overflow_add-end
 overflow_add-end c =
-    let i = is-in c.self.inside.lists c.args.self.now c.args.at.0 c.args.size c.self.view_is c.self.invariant.0 c.requires in
+    let i = is-in c.self.inside.lists (lists_of c.args.self.now) c.args.at.0 c.args.size (ap lists_of c.self.view_is) c.self.invariant.0 c.requires in
     omega (arith, i.p.to, i.p.most, i.p.within, i.few)
 
 pub base_of-requires : goal.base_of-requires
 base_of-requires c =
-    let i = is-in c.self.inside.lists c.args.self.now c.args.at.0 c.args.size c.self.view_is c.self.invariant.0 c.requires in
+    let i = is-in c.self.inside.lists (lists_of c.args.self.now) c.args.at.0 c.args.size (ap lists_of c.self.view_is) c.self.invariant.0 c.requires in
     omega (arith, i.p.region, i.p.within, i.few)
 
 pub fill-requires : goal.fill-requires
 fill-requires c =
-    let i = is-in c.self.inside.lists c.args.self.now c.args.at.0 c.args.size c.self.view_is c.self.invariant.0 c.requires in
+    let i = is-in c.self.inside.lists (lists_of c.args.self.now) c.args.at.0 c.args.size (ap lists_of c.self.view_is) c.self.invariant.0 c.requires in
     ap (λ k. is_some (row_of c.self.inside.lists.in_use k)) i.p.region ∙ ap is_some i.f.is
 
 pub overflow_add-base_of : goal.overflow_add-base_of
 overflow_add-base_of c =
     let s = c.self.inside.lists in
-    let i = is-in s c.args.self.now c.args.at.0 c.args.size c.self.view_is c.self.invariant.0 c.requires in
+    let i = is-in s (lists_of c.args.self.now) c.args.at.0 c.args.size (ap lists_of c.self.view_is) c.self.invariant.0 c.requires in
     let filled = fill-is s.in_use i.f.row.region ((c.args.at.0 - region_base) / region_bytes) c.fill.result i.f.row i.p.region i.f.is c.fill.ensures in
     omega (arith, c.base_of.ensures, i.p.region, i.p.within, i.few, i.p.most, filled)
 
@@ -71,8 +71,8 @@ returns-then-end-base_of c =
     let s = c.self.inside.lists in
     let at = c.args.at.0 in
     let size = c.args.size in
-    let i = is-in s c.args.self.now at size c.self.view_is c.self.invariant.0 c.requires in
-    sym (goes-on s c.args.self.now at size c.base_of.result c.fill.result i c.base_of.ensures c.fill.ensures
+    let i = is-in s (lists_of c.args.self.now) at size (ap lists_of c.self.view_is) c.self.invariant.0 c.requires in
+    sym (goes-on s (lists_of c.args.self.now) at size c.base_of.result c.fill.result i c.base_of.ensures c.fill.ensures
     ∙ ap (λ (b : Bool). if b then Some (at + size) else start_of (row_behind s.in_use ((at - region_base) / region_bytes))) (lt-ltb (at + size) (c.base_of.result + c.fill.result) c.if-end-base_of.true))
 
 pub returns-in_err-row : goal.returns-in_err-row
@@ -80,8 +80,8 @@ returns-in_err-row c =
     let s = c.self.inside.lists in
     let at = c.args.at.0 in
     let size = c.args.size in
-    let i = is-in s c.args.self.now at size c.self.view_is c.self.invariant.0 c.requires in
-    sym (goes-on s c.args.self.now at size c.base_of.result c.fill.result i c.base_of.ensures c.fill.ensures
+    let i = is-in s (lists_of c.args.self.now) at size (ap lists_of c.self.view_is) c.self.invariant.0 c.requires in
+    sym (goes-on s (lists_of c.args.self.now) at size c.base_of.result c.fill.result i c.base_of.ensures c.fill.ensures
     ∙ ap (λ (b : Bool). if b then Some (at + size) else start_of (row_behind s.in_use ((at - region_base) / region_bytes))) (le-ltb (at + size) (c.base_of.result + c.fill.result) (omega (arith, c.if-end-base_of.false)))
     ∙ ap start_of (sym c.in_err-row.ensures)
     ∙ sym (ap (option_map (λ (it : Addr). it.0)) c.from_residual.ensures))
@@ -97,8 +97,8 @@ returns c =
     let s = c.self.inside.lists in
     let at = c.args.at.0 in
     let size = c.args.size in
-    let i = is-in s c.args.self.now at size c.self.view_is c.self.invariant.0 c.requires in
-    sym (goes-on s c.args.self.now at size c.base_of.result c.fill.result i c.base_of.ensures c.fill.ensures
+    let i = is-in s (lists_of c.args.self.now) at size (ap lists_of c.self.view_is) c.self.invariant.0 c.requires in
+    sym (goes-on s (lists_of c.args.self.now) at size c.base_of.result c.fill.result i c.base_of.ensures c.fill.ensures
     ∙ ap (λ (b : Bool). if b then Some (at + size) else start_of (row_behind s.in_use ((at - region_base) / region_bytes))) (le-ltb (at + size) (c.base_of.result + c.fill.result) (omega (arith, c.if-end-base_of.false)))
     ∙ ap start_of (sym c.in_ok-row.ensures)
     ∙ ap (λ k. Some k) (sym c.base_of-2.ensures))

@@ -1,0 +1,9 @@
+pub mod OrderLemmas
+pub mod TakesLemmas
+pub mod ReachLemmas
+pub mod YoungLemmas
+pub mod MarkLemmas
+pub mod StartLemmas
+pub mod ListLemmas
+pub mod FollowLemmas
+pub mod FindLemmas

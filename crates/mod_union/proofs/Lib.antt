@@ -1,0 +1,9 @@
+pub mod Cards
+pub mod Counted
+pub mod Lists
+pub mod Objects
+pub mod Reached
+pub mod Refs
+pub mod SlotCards
+pub mod Slots
+pub mod Updates

@@ -1,0 +1,4 @@
+pub mod Lists
+pub mod ModUnion
+pub mod Noted
+pub mod Scans
