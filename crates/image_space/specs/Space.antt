@@ -1,7 +1,8 @@
 -- The image space: objects placed one directly behind the other, and the pages that hold their bytes.
-use Rattle.std.specs.Prelude.{◌≡◌, ℕ, ◌+◌, ◌-◌, ◌/◌, ◌%◌, ◌≤◌, ◌==◌, ◌||◌, List, [], ◌∷◌, max, sum}
+use Rattle.std.specs.Prelude.{◌≡◌, ℕ, ◌+◌, ◌-◌, ◌/◌, ◌%◌, ◌≤◌, ◌==◌, ◌||◌, ◌&&◌, Bool, nat_le, nat_lt, List, [], ◌∷◌, max, sum}
 use Rattle.std.specs.List.{list_any}
 use Rattle.model_numbers.specs.Numbers.{image_base, image_length, page_bytes, most_array_bytes}
+use Rattle.page_tables.specs.declared.address.Window.{Window}
 use Rattle.page_tables.specs.declared.address.Window.TheVariants.{Image}
 use Rattle.page_tables.specs.Address.{first_page}
 use Rattle.cow_pages.specs.Memory.{Memory, used_frames, used_leaves}
@@ -41,6 +42,10 @@ pub record IsSpace (s : Space) : Type 0 where
   pub bounded : s.fill ≤ image_length
   pub start : s.starts.start ≡ image_base
   pub span : s.starts.span ≡ s.fill
+
+-- a page holds some of the first so many bytes of a window
+abbrev pub holds_first : Window → ℕ → ℕ → Bool
+holds_first w bytes p = nat_le (first_page w) p && nat_lt p (first_page w + pages_up_to bytes)
 
 -- of the image window's pages, exactly those are mapped that hold so many bytes
 abbrev pub HasPagesUpTo : Memory → ℕ → ℕ → Type 0

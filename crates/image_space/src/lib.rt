@@ -4,5 +4,7 @@
 mod laws;
 mod space;
 
-pub use laws::{new_tables_fit, spaces_keep_sizes, spots_are_sums, spots_stay_apart};
+pub use laws::{
+    new_tables_fit, pages_are_of_objects, spaces_keep_sizes, spots_are_sums, spots_stay_apart,
+};
 pub use space::{ImageError, ImageSpace};

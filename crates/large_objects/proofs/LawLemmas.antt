@@ -13,7 +13,8 @@ use Rattle.cow_pages.proofs.LawLemmas.{counts, count-same, count-none}
 use Rattle.image_space.specs.Space.{pages_up_to}
 use Rattle.page_runs.proofs.LawLemmas.{run-count}
 use Rattle.large_objects.specs.declared.rows.LargeRow.{LargeRow}
-use Rattle.large_objects.specs.Pages.{HasPages, covers, holds_page, page_sum}
+use Rattle.page_runs.specs.Covered.{covers}
+use Rattle.large_objects.specs.Pages.{HasPages, holds_page, page_sum}
 use Rattle.large_objects.specs.Rows.{AreRows, IsBytes, cost_of, costs_of, row_at, slot_base, waits}
 use Rattle.large_objects.proofs.PageLemmas.{any-kept, any-split, none-holds, one-side, slots-apart}
 use Rattle.large_objects.proofs.RowLemmas.{KeepsSlots, rows-filter, slots}

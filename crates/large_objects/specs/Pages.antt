@@ -1,5 +1,5 @@
 -- The pages of large objects.
-use Rattle.std.specs.Prelude.{◌≡◌, ◌≢◌, ◌⊎◌, ℕ, ◌+◌, ◌-◌, ◌≤◌, Bool, false, ◌&&◌, IsTrue, List, map, sum, None, nat_le, nat_lt}
+use Rattle.std.specs.Prelude.{◌≡◌, ◌≢◌, ◌⊎◌, ℕ, ◌+◌, ◌≤◌, Bool, false, ◌&&◌, IsTrue, List, map, sum, None, nat_le, nat_lt}
 use Rattle.std.specs.List.{list_any}
 use Rattle.page_tables.specs.declared.address.Window.TheVariants.{Large}
 use Rattle.page_tables.specs.Address.{is_in, page_of}
@@ -12,10 +12,6 @@ use Rattle.large_objects.specs.Rows.{slot_base}
 -- a page holds bytes of a row's object
 abbrev pub holds_page : ℕ → LargeRow → Bool
 holds_page p row = nat_le (page_of (slot_base row.slot)) p && nat_lt p (page_of (slot_base row.slot) + pages_up_to row.bytes)
-
--- a page holds some of so many bytes, one or more, from an address on
-abbrev pub covers : ℕ → ℕ → ℕ → Bool
-covers at size p = nat_le (page_of at) p && nat_le p (page_of (at + size - 1))
 
 -- of the large window exactly the pages are mapped that hold bytes of objects
 abbrev pub HasPages : Memory → ℕ → List LargeRow → Type 0

@@ -6,7 +6,8 @@ ghost use Rattle.page_tables.specs.declared.address.Window.TheVariants.{Large};
 ghost use Rattle.cow_pages.specs.Laws.{pages_in};
 ghost use Rattle.cow_pages.specs.Memory.{Memory, page_at, is_written, mapped_in, written_in, IsSound};
 ghost use Rattle.large_objects.specs.declared.rows.LargeRow.{LargeRow};
-ghost use Rattle.large_objects.specs.Pages.{HasPages, covers, holds_page, page_sum};
+ghost use Rattle.page_runs.specs.Covered.{covers};
+ghost use Rattle.large_objects.specs.Pages.{HasPages, holds_page, page_sum};
 ghost use Rattle.large_objects.specs.Rows.{AreRows, IsBytes, costs_of, marked_at, promoted_row, row_at, slot_base, waits};
 
 /// The row of an object is found at the address where its slot begins. Marked or promoted, it is found there too.

@@ -15,7 +15,7 @@ use Rattle.heap_graph.specs.Sizes.{parts_for, size_in}
 use Rattle.object_view.proofs.Laid.{size-bounds}
 use Rattle.region_lists.specs.Rows.{Lists, Row}
 use Rattle.region_space.specs.Packed.{address_in, end_of_rows, packed_pages, Pack}
-use Rattle.region_space.specs.Pages.{covers}
+use Rattle.page_runs.specs.Covered.{covers}
 use Rattle.region_space.specs.Space.{further_pages, holds_page, spot_in, with_object, would_open, IsFilled, IsSize, Places}
 use Rattle.region_space.proofs.LieLemmas.{pages-grown}
 use Rattle.region_space.proofs.PackLemmas.{end-more, object-stays, pack-more, pack-opens, pack-spot}

@@ -24,7 +24,8 @@ use Rattle.object_view.proofs.Standing.{HasShape-stands}
 use Rattle.page_runs.specs.Runs.{IsInRun, MapsRun}
 use Rattle.page_runs.proofs.RunLemmas.{run-only, side}
 use Rattle.region_lists.specs.Rows.{Lists, Row, last_of, with_last}
-use Rattle.region_space.specs.Pages.{covers, IsObjectIn, lies_in}
+use Rattle.page_runs.specs.Covered.{covers}
+use Rattle.region_space.specs.Pages.{IsObjectIn, lies_in}
 use Rattle.region_space.specs.Space.{base_of, filled, further_from, further_pages, holds_page, with_object, HasPages, IsFilled, IsSize, Places}
 use Rattle.region_space.specs.Space as regions
 use Rattle.region_space.proofs.DropLemmas.{held-run}

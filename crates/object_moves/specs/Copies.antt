@@ -12,7 +12,8 @@ use Rattle.heap_graph.specs.Packing.{end_from, places_from}
 use Rattle.heap_graph.specs.Sizes.{parts_for}
 use Rattle.region_lists.specs.Rows.{Lists, Row}
 use Rattle.region_space.specs.Packed.{address_in, packed_pages, Pack}
-use Rattle.region_space.specs.Pages.{covers, IsObjectIn}
+use Rattle.page_runs.specs.Covered.{covers}
+use Rattle.region_space.specs.Pages.{IsObjectIn}
 use Rattle.region_space.specs.Space.{filled, further_pages, holds_page, would_open, AreAlone, HasPages, IsSpace}
 use Rattle.raw_objects.specs.Raws.{evacuated, forwarded_raw, raw_size, HoldsRaws, Raws}
 use Rattle.raw_objects.specs.References.{in_regions}

@@ -13,7 +13,8 @@ use Rattle.page_tables.specs.Address.{is_in, page_of}
 use Rattle.cow_pages.specs.Memory.{Memory, is_mapped}
 use Rattle.region_lists.specs.Rows.{Lists, Row, last_of, with_last}
 use Rattle.region_lists.proofs.MoveLemmas.{all-left}
-use Rattle.region_space.specs.Pages.{IsObjectIn, covers, lies_in}
+use Rattle.page_runs.specs.Covered.{covers}
+use Rattle.region_space.specs.Pages.{IsObjectIn, lies_in}
 use Rattle.region_space.specs.Space.{HasPages, IsFilled, IsSize, IsSpace, Places, base_of, fill_if, filled, has_room, holds_page, spot_if, spot_in, with_object, with_object_if}
 use Rattle.region_space.proofs.DropLemmas.{run-held}
 use Rattle.region_space.proofs.PageLemmas.{filled-is, holds-more, inside, is_run, run_from, run_length}

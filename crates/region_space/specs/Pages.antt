@@ -1,5 +1,5 @@
 -- The pages of rows of regions: how many there are, and that they were released.
-use Rattle.std.specs.Prelude.{◌≡◌, ◌≢◌, ◌⊎◌, ℕ, ◌+◌, ◌-◌, ◌≤◌, ◌<◌, Bool, false, ◌&&◌, IsTrue, List, [], ◌∷◌, map, sum, Option, None, Some, if◌then◌else◌, nat_le, nat_lt}
+use Rattle.std.specs.Prelude.{◌≡◌, ◌≢◌, ◌⊎◌, ℕ, ◌+◌, ◌≤◌, ◌<◌, Bool, false, ◌&&◌, IsTrue, List, [], ◌∷◌, map, sum, Option, None, Some, if◌then◌else◌, nat_le, nat_lt}
 use Rattle.std.specs.List.{list_any}
 use Rattle.page_tables.specs.Address.{page_of}
 use Rattle.cow_pages.specs.View.{View}
@@ -10,10 +10,6 @@ use Rattle.region_space.specs.Space.{base_of, holds_page, row_pages}
 -- how many pages hold bytes of objects
 abbrev pub page_sum : List Row → ℕ
 page_sum rows = sum (map row_pages rows)
-
--- the page holds bytes of an object of this size at this address
-abbrev pub covers : ℕ → ℕ → ℕ → Bool
-covers at size p = nat_le (page_of at) p && nat_le p (page_of (at + size - 1))
 
 -- exactly the pages of these rows were unmapped, and their frames freed
 pub record ReleasesRows (old new : Memory) (t : ℕ) (rows : List Row) : Type 0 where

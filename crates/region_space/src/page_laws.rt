@@ -8,7 +8,8 @@ ghost use Rattle.heap_graph.specs.Packing.{end_from};
 ghost use Rattle.heap_graph.specs.Sizes.{parts_for};
 ghost use Rattle.region_lists.specs.Rows.{Lists, Row};
 ghost use Rattle.region_space.specs.Packed.{Pack, packed_pages};
-ghost use Rattle.region_space.specs.Pages.{IsObjectIn, covers, page_sum};
+ghost use Rattle.page_runs.specs.Covered.{covers};
+ghost use Rattle.region_space.specs.Pages.{IsObjectIn, page_sum};
 ghost use Rattle.region_space.specs.Space.{HasPages, IsSize, IsSpace, Places, filled, further_pages, holds_page, with_object};
 
 /// An object that was placed lies in a row in use, beside each object that stood in a row before, in use or from. Each byte

@@ -1,8 +1,12 @@
 //! Laws about spots: the objects of a segment stand from a whole page on, at the sums of the sizes before them.
-ghost use Rattle.std.specs.Prelude.{◌≡◌, ℕ, ◌-◌, List, [], ◌∷◌, ◌++◌, None, IsFalse};
-ghost use Rattle.cow_pages.specs.Memory.{Memory, page_at};
+ghost use Rattle.std.specs.Prelude.{◌≡◌, ℕ, ◌-◌, ◌<◌, ◌||◌, List, [], ◌∷◌, ◌++◌, None, IsFalse, IsTrue};
+ghost use Rattle.page_tables.specs.declared.address.Window.TheVariants.{Zygote};
+ghost use Rattle.page_tables.specs.Address.{is_in};
+ghost use Rattle.cow_pages.specs.Memory.{Memory, is_mapped, page_at};
+ghost use Rattle.page_runs.specs.Covered.{covers};
+ghost use Rattle.image_space.specs.Space.{holds_first};
 ghost use Rattle.mark_bitmap.specs.Marks.{is_marked};
-ghost use Rattle.zygote_space.specs.Space.{Space, HasOpen, HasPagesUpTo, HasSegments, Opens, Places};
+ghost use Rattle.zygote_space.specs.Space.{Space, HasOpen, HasPagesUpTo, HasSegments, IsSpace, Opens, Places, end_of, to_page, zygote_spot};
 
 /// A space without bytes has no segments. One in which a segment is opened has an open one without objects, and one in
 /// which an object is placed has its size besides.
@@ -22,4 +26,14 @@ pub fn closing_ends_a_segment()
 /// A table without pages has exactly those of a space without bytes.
 pub fn new_tables_fit()
     ensures { (m : Memory) (t : ℕ) → ((p : ℕ) → page_at m t p ≡ None) → HasPagesUpTo m t 0 }
+{}
+
+/// With an object more, a page holds bytes up to the last object exactly where it did before or the object covers it, and
+/// with a segment more one holds bytes of the space where it did before or the segment covers it. A table that has the
+/// pages of a space has exactly those that hold bytes of it.
+pub fn pages_are_of_objects()
+    ensures grown { (old new : Space) (at size p : ℕ) → IsSpace old → 0 < size → Places old new at size → holds_first Zygote new.fill p ≡ (holds_first Zygote old.fill p || covers at size p) }
+    ensures opened { (old new : Space) (total p : ℕ) → old.segment ≡ None → 0 < total → Opens old new total
+        → holds_first Zygote (end_of new) p ≡ (holds_first Zygote (end_of old) p || covers (zygote_spot (to_page old.fill)) total p) }
+    ensures mapped { (m : Memory) (t bytes p : ℕ) → HasPagesUpTo m t bytes → IsTrue (is_in Zygote p) → is_mapped m t p ≡ holds_first Zygote bytes p }
 {}

@@ -4,5 +4,7 @@
 mod laws;
 mod space;
 
-pub use laws::{closing_ends_a_segment, new_tables_fit, spaces_keep_segments};
+pub use laws::{
+    closing_ends_a_segment, new_tables_fit, pages_are_of_objects, spaces_keep_segments,
+};
 pub use space::{ZygoteError, ZygoteSpace};
