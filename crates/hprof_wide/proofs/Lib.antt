@@ -1,0 +1,4 @@
+pub mod Values
+pub mod PartsByTag
+pub mod Segments
+pub mod Unique
