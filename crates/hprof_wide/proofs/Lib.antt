@@ -2,3 +2,4 @@ pub mod Values
 pub mod PartsByTag
 pub mod Segments
 pub mod Unique
+pub mod Bodies
