@@ -3,3 +3,4 @@ pub mod PartsByTag
 pub mod Segments
 pub mod Unique
 pub mod Bodies
+pub mod LawLemmas

@@ -5,6 +5,7 @@
 mod class_parts;
 mod dump;
 mod ids;
+mod laws;
 mod parts;
 mod records;
 mod wide_error;
@@ -13,6 +14,7 @@ mod wide_sub;
 mod wide_top;
 
 pub use dump::{WideDump, read_wide};
+pub use laws::{no_fault_in_wide_dumps, one_wide_list};
 pub use wide_error::WideError;
 pub use wide_lists::{WideFieldNames, WideIds, WideStatics};
 pub use wide_sub::{WideSub, WideSubList};
