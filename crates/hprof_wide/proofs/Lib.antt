@@ -1,0 +1,6 @@
+pub mod Values
+pub mod PartsByTag
+pub mod Segments
+pub mod Unique
+pub mod Bodies
+pub mod LawLemmas
