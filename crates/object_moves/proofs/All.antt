@@ -1,5 +1,5 @@
 -- Objects of the regions that are copied one after the other.
-use Rattle.std.proofs.Common.{◌≡◌, ◌≢◌, ◌∙◌, ◌⊎◌, ℕ, zero, suc, ◌+◌, ◌-◌, ◌/◌, ◌<◌, ◌≤◌, Bool, true, false, List, [], ◌∷◌, ◌++◌, refl, sym, ap, subst, inl, inr, arith, length, map, take, drop, get_or, All}
+use Rattle.std.proofs.Common.{◌≡◌, ◌≢◌, ◌∙◌, ℕ, zero, suc, ◌+◌, ◌-◌, ◌/◌, ◌<◌, ◌≤◌, Bool, true, false, List, [], ◌∷◌, ◌++◌, refl, sym, ap, subst, inl, inr, arith, length, map, take, drop, get_or, All}
 use Rattle.std.proofs.lemmas.Bool.{cases_eq, eq-eqb, or_cases, or_left, or_right, true≢false}
 use Rattle.std.proofs.lemmas.List.{append-nil, get_or-map, get_or-set_other, get_or-set_same, length-map, map-append, take-append-drop, take_all, take_more_set}
 use Rattle.std.proofs.lemmas.List.Elements.{All-cons, All-head, All-nil, All-tail, All-take}
@@ -16,12 +16,12 @@ use Rattle.object_view.proofs.Laid.{size-bounds}
 use Rattle.region_lists.specs.Rows.{Lists, Row}
 use Rattle.region_space.specs.Packed.{address_in, end_of_rows, packed_pages, Pack}
 use Rattle.page_runs.specs.Covered.{covers}
-use Rattle.region_space.specs.Space.{further_pages, holds_page, spot_in, with_object, would_open, IsFilled, IsSize, Places}
+use Rattle.region_space.specs.Space.{further_pages, holds_page, with_object, would_open, IsFilled, IsSize, Places}
 use Rattle.region_space.proofs.LieLemmas.{pages-grown}
 use Rattle.region_space.proofs.PackLemmas.{end-more, object-stays, pack-more, pack-opens, pack-spot}
 use Rattle.region_space.proofs.PackedLemmas.{packed-before, packed-rows, packed-step, used-before}
 use Rattle.region_space.proofs.WalkLemmas.{in_use-filled}
-use Rattle.raw_objects.specs.Raws.{evacuated, forwarded_raw, raw_size, Raw, Raws}
+use Rattle.raw_objects.specs.Raws.{evacuated, forwarded_raw, raw_size, Raws}
 use Rattle.raw_objects.specs.References.{in_regions}
 use Rattle.raw_objects.proofs.Raws.{at-here, at-other}
 use Rattle.object_moves.specs.Copies.{at_of, moved, sizes_at, AreMoved, CanCopy, CanCopyAll, HoldsRegions, KeepsOutside, PacksAt}

@@ -1,5 +1,5 @@
 -- References of many objects that are turned, one object after the other.
-use Rattle.std.proofs.Common.{◌≡◌, ◌≢◌, ◌∙◌, ◌⊎◌, ℕ, zero, suc, ◌+◌, ◌%◌, ◌<◌, ◌≤◌, Bool, true, false, List, [], ◌∷◌, ◌++◌, Option, Some, None, IsTrue, refl, sym, ap, subst, inl, inr, arith, length, map, take, drop, get_or, nat_eq, pos}
+use Rattle.std.proofs.Common.{◌≡◌, ◌∙◌, ℕ, zero, suc, ◌+◌, ◌%◌, ◌<◌, ◌≤◌, Bool, true, false, List, [], ◌∷◌, ◌++◌, Option, Some, None, IsTrue, refl, sym, ap, inl, inr, arith, length, map, take, drop, get_or, nat_eq}
 use Rattle.std.specs.Prelude.{◌||◌}
 use Rattle.std.specs.List.{list_any}
 use Rattle.std.proofs.lemmas.Bool.{cases_Bool, cases_eq, cases_order, eq-eqb, eqb-true, or_cases, or_left, or_right, true≢false}
@@ -12,19 +12,19 @@ use Rattle.class_layout.specs.ClassList.{Class}
 use Rattle.class_layout.specs.Placing.{IsIn}
 use Rattle.page_tables.specs.declared.address.Addr.{Addr}
 use Rattle.page_tables.specs.Address.{page_of}
-use Rattle.cow_pages.specs.Memory.{Memory, is_mapped, HasOneSharer}
+use Rattle.cow_pages.specs.Memory.{Memory, is_mapped}
 use Rattle.cow_pages.specs.View.{View, view_of}
 use Rattle.heap_graph.specs.declared.names.Shape.{Shape}
 use Rattle.heap_graph.specs.Sizes.{size_in}
 use Rattle.heap_graph.specs.Places.{places_of}
 use Rattle.object_view.specs.declared.names.Slot.{Slot}
 use Rattle.object_view.specs.Changes.{pages_in, AreAlone}
-use Rattle.object_view.specs.Objects.{reference_count, reference_place, IsPlace}
+use Rattle.object_view.specs.Objects.{reference_count, reference_place}
 use Rattle.object_view.proofs.Laid.{place-within, reference-in, size-bounds}
 use Rattle.object_view.proofs.References.{references-found}
-use Rattle.raw_objects.specs.Keeps.{Covers, Keeps}
+use Rattle.raw_objects.specs.Keeps.{Keeps}
 use Rattle.raw_objects.specs.Raws.{raw_size, HoldsRaws, Raws}
-use Rattle.raw_objects.specs.References.{is_first_reference, is_reference, stands_at, turned_where, IsSlotIn, IsTurnable}
+use Rattle.raw_objects.specs.References.{is_first_reference, is_reference, stands_at, turned_where, IsTurnable}
 use Rattle.raw_objects.proofs.Kept.{space-page}
 use Rattle.raw_objects.proofs.Raws.{raws-same}
 use Rattle.raw_objects.proofs.Turned.{same-turned, slot-place}

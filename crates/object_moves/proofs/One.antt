@@ -1,8 +1,8 @@
 -- One object of the regions that is copied behind those in use.
-use Rattle.std.proofs.Common.{◌≡◌, ◌≢◌, ◌∙◌, ◌⊎◌, ℕ, zero, suc, ◌+◌, ◌*◌, ◌/◌, ◌-◌, ◌%◌, ◌^◌, ◌<◌, ◌≤◌, Bool, true, false, cond, List, [], ◌∷◌, ◌++◌, Option, Some, None, IsTrue, is_some, refl, sym, ap, subst, inl, inr, arith, length, map, nat_le, nat_lt, nat_eq}
-use Rattle.std.specs.Prelude.{◌||◌, ◌&&◌, if◌then◌else◌, option_map, All}
+use Rattle.std.proofs.Common.{◌≡◌, ◌≢◌, ◌∙◌, ◌⊎◌, ℕ, zero, suc, ◌+◌, ◌*◌, ◌/◌, ◌-◌, ◌%◌, ◌<◌, ◌≤◌, Bool, true, false, cond, List, [], ◌∷◌, Option, Some, None, is_some, refl, sym, ap, subst, inl, inr, arith, nat_le, nat_eq}
+use Rattle.std.specs.Prelude.{◌||◌, option_map, All}
 use Rattle.std.specs.List.{list_any}
-use Rattle.std.proofs.lemmas.Bool.{and_from, and_parts, cases_Bool, cases_eq, eqb-true, le-leb, leb-true, ltb-true, lt-ltb, or_cases, or_left, or_right, true≢false}
+use Rattle.std.proofs.lemmas.Bool.{and_from, and_parts, cases_Bool, cases_eq, eqb-true, le-leb, leb-true, lt-ltb, or_cases, or_left, or_right, true≢false}
 use Rattle.std.proofs.lemmas.List.Elements.{All-head, All-tail}
 use Rattle.std.proofs.lemmas.List.Folds.{list_any-append}
 use Rattle.std.proofs.lemmas.Option.{same_Some}
@@ -10,7 +10,7 @@ use Rattle.model_numbers.specs.Numbers.{region_base, region_bytes, region_count}
 use Rattle.class_layout.specs.ClassList.{Class}
 use Rattle.page_tables.specs.declared.address.Window.TheVariants.{Regions}
 use Rattle.page_tables.specs.Address.{is_in, page_of}
-use Rattle.cow_pages.specs.Memory.{Memory, Page, frame_at, is_live, is_mapped, page_at, HasOneSharer, IsSound}
+use Rattle.cow_pages.specs.Memory.{Memory, Page, frame_at, is_mapped, page_at, HasOneSharer, IsSound}
 use Rattle.cow_pages.specs.Only.{OnlyTable}
 use Rattle.cow_pages.specs.View.{view_of, View}
 use Rattle.cow_pages.proofs.OnlyLemmas.{alone-stays, only-trans}
@@ -29,14 +29,14 @@ use Rattle.region_space.specs.Pages.{IsObjectIn, lies_in}
 use Rattle.region_space.specs.Space.{base_of, filled, further_from, further_pages, holds_page, with_object, HasPages, IsFilled, IsSize, Places}
 use Rattle.region_space.specs.Space as regions
 use Rattle.region_space.proofs.DropLemmas.{held-run}
-use Rattle.region_space.proofs.LieLemmas.{all-both, any-holds, filled-within, home, lies-in, object-mapped, pages-grown, placed-beside, placed-lies, Both, Home, LiesIn}
+use Rattle.region_space.proofs.LieLemmas.{all-both, any-holds, filled-within, home, lies-in, object-mapped, pages-grown, placed-beside, placed-lies, Both, LiesIn}
 use Rattle.region_space.proofs.PageLemmas.{filled-is, from-is, inside, run-in_window, run_from, run_length}
 use Rattle.region_space.proofs.RoomLemmas.{home-most, home-within, last-holds, Fits, Opens}
 use Rattle.region_space.proofs.WalkLemmas.{in_use-filled}
 use Rattle.raw_objects.specs.Keeps.{Covers, Keeps}
-use Rattle.raw_objects.specs.Raws.{added, changed, evacuated, forwarded_raw, raw_size, HoldsRaws, IsFreeSpace, Raw, Raws}
+use Rattle.raw_objects.specs.Raws.{added, evacuated, forwarded_raw, raw_size, HoldsRaws, IsFreeSpace, Raw, Raws}
 use Rattle.raw_objects.specs.References.{in_regions}
-use Rattle.raw_objects.proofs.Kept.{one-table, page-in}
+use Rattle.raw_objects.proofs.Kept.{one-table}
 use Rattle.raw_objects.proofs.Paging.{raws-run}
 use Rattle.raw_objects.proofs.Raws.{at-here, at-other}
 use Rattle.raw_objects.proofs.Uncounted.{read-free, regions-low, slot-free}

@@ -1,5 +1,5 @@
 -- Objects of the regions that are copied one behind the other.
-use Rattle.std.specs.Prelude.{◌≡◌, ◌≢◌, ◌⊎◌, ℕ, zero, suc, ◌+◌, ◌*◌, ◌<◌, ◌≤◌, Bool, true, false, IsTrue, List, [], ◌∷◌, length, map, slice_index_or}
+use Rattle.std.specs.Prelude.{◌≡◌, ◌≢◌, ◌⊎◌, ℕ, zero, suc, ◌+◌, ◌*◌, ◌<◌, ◌≤◌, true, false, IsTrue, List, [], length, map, slice_index_or}
 use Rattle.std.specs.List.{list_any}
 use Rattle.model_numbers.specs.Numbers.{region_base, region_bytes, region_count}
 use Rattle.class_layout.specs.ClassList.{Class}

@@ -7,14 +7,13 @@ use Rattle.class_layout.specs.ClassList.{Class}
 use Rattle.class_layout.specs.Placing.{IsIn}
 use Rattle.page_tables.specs.declared.address.Addr.{Addr}
 use Rattle.page_tables.specs.Address.{page_of}
-use Rattle.cow_pages.specs.Memory.{Memory, HasOneSharer, IsSound}
-use Rattle.cow_pages.specs.View.{View, view_of}
+use Rattle.cow_pages.specs.Memory.{Memory, HasOneSharer}
 use Rattle.heap_graph.specs.Places.{places_of}
 use Rattle.object_view.specs.declared.names.Slot.{Slot}
 use Rattle.object_view.specs.Changes.{pages_in, AreAlone}
 use Rattle.raw_objects.specs.Keeps.{Covers}
-use Rattle.raw_objects.specs.Raws.{raw_size, HoldsRaws, Raws}
-use Rattle.raw_objects.specs.References.{goes, in_regions, is_reference, turned_where, IsSlotIn, IsTarget}
+use Rattle.raw_objects.specs.Raws.{raw_size, Raws}
+use Rattle.raw_objects.specs.References.{goes, in_regions, is_reference, IsSlotIn, IsTarget}
 use Rattle.object_moves.specs.Copies.{at_of}
 
 -- a reference of the object at the address stands at b

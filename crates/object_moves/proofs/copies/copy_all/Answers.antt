@@ -1,10 +1,10 @@
-use Rattle.std.proofs.Common.{◌≡◌, ◌∙◌, ◌+◌, ◌<◌, ℕ, length, arith, subst, sym, ap}
+use Rattle.std.proofs.Common.{◌≡◌, ◌∙◌, ◌<◌, ℕ, length, arith, subst}
 use Rattle.std.proofs.lemmas.List.{length-set}
 use Rattle.cow_pages.proofs.OnlyLemmas.{only-trans}
 use Rattle.region_space.specs.Space.{lists_of}
 use Rattle.raw_objects.specs.Raws.{Raws}
 use Rattle.object_moves.specs.Copies.{moved, AreMoved, HoldsRegions}
-use Rattle.object_moves.proofs.All.{copying-all, copying-can, copying-next, copying-none, outside-both, outside-none, Copying}
+use Rattle.object_moves.proofs.All.{copying-all, copying-can, copying-next, outside-both, Copying}
 use Rattle.object_moves.proofs.copies.copy_all.Goals as goal
 
 pub copy_one-to-requires : goal.copy_one-to-requires

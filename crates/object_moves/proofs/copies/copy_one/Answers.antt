@@ -1,12 +1,6 @@
-use Rattle.std.proofs.Common.{◌≡◌, ◌∙◌, ◌⊎◌, ◌+◌, ◌/◌, ◌^◌, ◌<◌, ◌≤◌, ℕ, true, false, IsTrue, IsOk, is_ok, inl, inr, refl, sym, ap, subst, arith, true≢false}
-use Rattle.cow_pages.specs.Memory.{Memory, IsSound}
-use Rattle.cow_pages.specs.View.{view_of}
-use Rattle.object_view.specs.Changes.{reads_after_all, steps_from, AreAlone}
-use Rattle.object_view.specs.Objects.{IsSpace}
-use Rattle.region_space.specs.Space.{filled, further_pages, lists_of, would_open, HasPages, IsSize, Places}
-use Rattle.raw_objects.specs.Raws.{evacuated, raw_size, HoldsRaws, IsFreeSpace, Raws}
-use Rattle.raw_objects.proofs.Uncounted.{regions-low}
-use Rattle.object_moves.specs.Copies.{CanCopy, HoldsRegions, KeepsOutside}
+use Rattle.std.proofs.Common.{◌∙◌, is_ok, sym, ap, subst, arith, true≢false}
+use Rattle.cow_pages.specs.Memory.{Memory}
+use Rattle.region_space.specs.Space.{filled, further_pages, lists_of, would_open, HasPages, IsSize}
 use Rattle.object_moves.proofs.One.{copied, found-alone, found-aligned, found-apart, found-fresh, found-from, found-size, found-to, known, size-fits, young-here}
 use Rattle.object_moves.proofs.copies.copy_one.Goals as goal
 

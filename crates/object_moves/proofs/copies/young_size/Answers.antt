@@ -1,4 +1,4 @@
-use Rattle.std.proofs.Common.{◌≡◌, ◌∙◌, ◌^◌, ◌<◌, ◌≤◌, sym, ap, subst, arith}
+use Rattle.std.proofs.Common.{◌≡◌, ◌∙◌, sym, ap, subst, arith}
 use Rattle.cow_pages.specs.View.{view_of}
 use Rattle.heap_graph.specs.Sizes.{size_in}
 use Rattle.object_view.specs.Objects.{IsKnown}

@@ -1,12 +1,10 @@
-use Rattle.std.proofs.Common.{◌≡◌, ◌∙◌, ◌+◌, ◌<◌, ℕ, Bool, is_ok, length, take, true, refl, sym, ap, subst, arith, true≢false}
+use Rattle.std.proofs.Common.{◌∙◌, ℕ, Bool, is_ok, true, refl, sym, ap, subst, arith, true≢false}
 use Rattle.std.specs.Prelude.{◌||◌}
 use Rattle.std.proofs.lemmas.List.{take_all}
-use Rattle.cow_pages.specs.Memory.{Memory}
 use Rattle.cow_pages.specs.View.{view_of}
 use Rattle.raw_objects.specs.Raws.{HoldsRaws, Raws}
 use Rattle.raw_objects.specs.References.{turned_where}
 use Rattle.raw_objects.proofs.Kept.{keeps-none, keeps-then}
-use Rattle.object_moves.specs.Copies.{at_of}
 use Rattle.object_moves.specs.Turns.{is_reference_of}
 use Rattle.object_moves.proofs.Many.{next-alone, next-turnable, turned-next, turned_to}
 use Rattle.object_moves.proofs.turns.turn_all.Goals as goal

@@ -1,8 +1,8 @@
-use Rattle.std.proofs.Common.{◌≡◌, ◌∙◌, ◌+◌, ◌<◌, ℕ, Bool, inl, is_ok, length, take, true, refl, sym, ap, subst, arith, true≢false}
+use Rattle.std.proofs.Common.{◌∙◌, ℕ, is_ok, true, refl, sym, ap, subst, arith, true≢false}
 use Rattle.std.specs.Prelude.{◌||◌}
 use Rattle.std.proofs.lemmas.List.{take_all}
 use Rattle.cow_pages.specs.View.{view_of}
-use Rattle.raw_objects.specs.Raws.{HoldsRaws, Raws}
+use Rattle.raw_objects.specs.Raws.{HoldsRaws}
 use Rattle.raw_objects.specs.References.{turned_where}
 use Rattle.raw_objects.proofs.Kept.{keeps-none, keeps-then}
 use Rattle.raw_objects.proofs.Turned.{slot-readable}
