@@ -91,7 +91,7 @@ one_header t t' w w' u u' x y f g e =
     let times : got' ≡ want' = ok_is got' want' (sym (long_number_format.again u x f.2) ∙ ap (number w64) (ap (λ (q : ℕ × List ℕ). q.1) widths) ∙ long_number_format.again u' y g.2) in
     (ap (λ (q : ℕ × List ℕ). q.0) widths, ap (λ (q : ℕ × List ℕ). q.0) times, ap (λ (q : ℕ × List ℕ). q.1) times)
 
-header_fault_not : (e : WideError) (t : List ℕ) (w time : ℕ) (body : List ℕ) → IsHeader t w time → WideHeaderFault e (wide_header_bytes t w time ++ body) → ⊥
+pub header_fault_not : (e : WideError) (t : List ℕ) (w time : ℕ) (body : List ℕ) → IsHeader t w time → WideHeaderFault e (wide_header_bytes t w time ++ body) → ⊥
 header_fault_not (errors.Magic offset) t w time body h f = f.1 (word w ++ (field 8 time ++ body)) (t, (h.0, header_pieces t w time body))
 header_fault_not (errors.IdSize offset) t w time body h f =
     let size = f.1.0 in
@@ -123,7 +123,7 @@ header_fault_not errors.OutOfMemory t w time body h f = f
 -- ---- dumps
 
 -- for each width that identifiers may have
-by_size : (P : ℕ → Type 0) → ((z : IdSize) → P (width_of z)) → (w : ℕ) → IsIdWidth w → P w
+pub by_size : (P : ℕ → Type 0) → ((z : IdSize) → P (width_of z)) → (w : ℕ) → IsIdWidth w → P w
 by_size P all w h = let z = size_of_width w h in subst P z.1 (all z.0)
 
 abbrev OneList : ℕ → Type 0

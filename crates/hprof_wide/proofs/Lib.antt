@@ -4,3 +4,5 @@ pub mod Segments
 pub mod Unique
 pub mod Bodies
 pub mod LawLemmas
+pub mod FirstFaults
+pub mod EveryText
