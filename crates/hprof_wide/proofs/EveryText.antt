@@ -184,8 +184,22 @@ size_or_fault text rest fits front =
             | inr not_four ↦ elim (cases_Bool (nat_eq n 8)) [
               | inl eight ↦ sized Eight text rest n x.0.1 fits front one.0 (eqb-true _ _ eight)
               | inr not_eight ↦
-                  inr (errors.IdSize 19, (refl, (word n, x.0.1, (told_front text rest (word n ++ x.0.1) front one.0, refl,
-                    other_word n 4 one.1 (omega arith) (eqb-false _ _ not_four), other_word n 8 one.1 (omega arith) (eqb-false _ _ not_eight)))))
+                  inr (
+                    errors.IdSize 19,
+                    (
+                      refl,
+                      (
+                        word n,
+                        x.0.1,
+                        (
+                          told_front text rest (word n ++ x.0.1) front one.0,
+                          refl,
+                          other_word n 4 one.1 (omega arith) (eqb-false _ _ not_four),
+                          other_word n 8 one.1 (omega arith) (eqb-false _ _ not_eight),
+                        ),
+                      ),
+                    ),
+                  )
             ]
           ]
       | inr s ↦
@@ -211,10 +225,16 @@ header_or_fault text fits =
             let whole : text ≡ magic_2 ++ drop 19 text = begins magic_2 text h in
             size_or_fault text (drop 19 text) (AreBytes-right magic_2 (drop 19 text) (subst AreBytes whole fits)) (text_2, (inl refl, whole))
         | inr not_2 ↦
-            inr (errors.Magic 0, (refl, (λ rest front. elim front.1.0 [
-              | inl is ↦ begins_not magic_2 text rest not_2 (front.1.1 ∙ ap (λ (t : List ℕ). t ++ (field 1 0 ++ rest)) is)
-              | inr is ↦ begins_not magic_3 text rest not_3 (front.1.1 ∙ ap (λ (t : List ℕ). t ++ (field 1 0 ++ rest)) is)
-            ])))
+            inr (
+              errors.Magic 0,
+              (
+                refl,
+                (λ rest front. elim front.1.0 [
+                  | inl is ↦ begins_not magic_2 text rest not_2 (front.1.1 ∙ ap (λ (t : List ℕ). t ++ (field 1 0 ++ rest)) is)
+                  | inr is ↦ begins_not magic_3 text rest not_3 (front.1.1 ∙ ap (λ (t : List ℕ). t ++ (field 1 0 ++ rest)) is)
+                ]),
+              ),
+            )
       ]
     ]
 
