@@ -6,3 +6,4 @@ pub mod Bodies
 pub mod LawLemmas
 pub mod FirstFaults
 pub mod EveryText
+pub mod NarrowDumps
