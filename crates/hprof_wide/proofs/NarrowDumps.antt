@@ -27,12 +27,12 @@ value_by code false e = refl
 value_same : (code : ℕ) → wide_value_bytes 4 code ≡ value_bytes code
 value_same code = value_by code (nat_eq code 2) refl
 
-four_by : (b : Bool) → cond b 4 4 ≡ 4
-four_by true = refl
-four_by false = refl
+same_by : (b : Bool) (n : ℕ) → cond b n n ≡ n
+same_by true n = refl
+same_by false n = refl
 
 further_same : (tag : ℕ) → further_width 4 tag ≡ 4
-further_same tag = four_by (nat_eq tag 0x01)
+further_same tag = same_by (nat_eq tag 0x01) 4
 
 constant_fits : (c : ℕ × ℕ × List ℕ) → IsConstant c → IsWideConstant 4 c
 constant_fits c h = (h.0, h.1, (h.2.0, h.2.1 ∙ sym (value_same c.1)))
