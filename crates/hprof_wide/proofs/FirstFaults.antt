@@ -1,5 +1,5 @@
 -- A text has at most one first fault.
-use Rattle.std.proofs.Common.{suc, take, inl, inr, ◌≡◌, ◌≢◌, ℕ, ◌+◌, ◌<◌, ◌⊎◌, List, [], ◌∷◌, ◌++◌, length, refl, sym, ap, ◌∙◌, append_assoc, arith, subst}
+use Rattle.std.proofs.Common.{suc, take, inl, inr, ◌≡◌, ◌≢◌, ℕ, ◌+◌, ◌<◌, List, [], ◌∷◌, ◌++◌, length, refl, sym, ap, ◌∙◌, append_assoc, arith, subst}
 use Rattle.std.proofs.lemmas.List.{length-append, take_at}
 use Rattle.hprof_records.specs.Parts.{word}
 use Rattle.hprof_read.specs.Reading.{frame}

@@ -1,5 +1,5 @@
 -- A text is the wide dump of at most one list of records, and a wide dump has no fault.
-use Rattle.std.proofs.Common.{suc, take, inl, inr, ◌≡◌, ℕ, ◌<◌, ◌^◌, ◌≤◌, List, [], ◌∷◌, ◌++◌, length, get_or, refl, sym, ap, ◌∙◌, append_assoc, arith, subst}
+use Rattle.std.proofs.Common.{suc, take, inl, inr, ◌≡◌, ℕ, ◌<◌, ◌^◌, ◌≤◌, List, [], ◌++◌, length, get_or, refl, sym, ap, ◌∙◌, append_assoc, arith, subst}
 use Rattle.std.specs.Int.{w32, w64}
 use Rattle.std.proofs.lemmas.List.{append-nil, append_cancel_left, length-append, take_at}
 use Rattle.hprof_records.specs.Fields.{field}

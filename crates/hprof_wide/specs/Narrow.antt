@@ -1,5 +1,5 @@
 -- The records of a dump with identifiers of 4 bytes, as those of a wide dump.
-use Rattle.std.specs.Prelude.{List, map}
+use Rattle.std.specs.Prelude.{map}
 use Rattle.hprof_records.specs.declared.sub_record.SubRecord.{SubRecord}
 use Rattle.hprof_records.specs.declared.sub_record.SubRecord.TheVariants as narrow
 use Rattle.hprof_records.specs.declared.top_record.TopRecord.{TopRecord}
