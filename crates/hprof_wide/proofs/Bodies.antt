@@ -1,5 +1,5 @@
 -- Wide records: what their bodies say, and where a record begins and ends.
-use Rattle.std.proofs.Common.{◌≡◌, ◌≢◌, ℕ, suc, ◌+◌, ◌<◌, ◌⊎◌, inl, inr, Bool, true, false, List, [], ◌∷◌, ◌++◌, length, Result, Ok, Err, refl, sym, ap, subst, ◌∙◌, append_assoc, arith}
+use Rattle.std.proofs.Common.{◌≡◌, ◌≢◌, ℕ, suc, ◌+◌, ◌<◌, ◌⊎◌, inl, inr, Bool, true, List, [], ◌∷◌, ◌++◌, length, Result, Ok, Err, refl, sym, ap, subst, ◌∙◌, append_assoc, arith}
 use Rattle.std.specs.Prelude.{IfOk, IfErr, IsTrue}
 use Rattle.std.specs.Int.{w32}
 use Rattle.std.specs.List.{flat_map}
@@ -15,7 +15,7 @@ use Rattle.hprof_read.specs.declared.fields.Stop.TheVariants.{Short, Refused}
 use Rattle.hprof_read.specs.declared.fields.Halt.{Halt}
 use Rattle.hprof_read.specs.declared.fields.Halt.TheVariants as halts
 use Rattle.hprof_read.specs.Reading.{◌>>=◌, Gives, Fails, number, both, counted, frame}
-use Rattle.hprof_read.specs.Fault.{framed, IsFramed, IsCut, field_tags}
+use Rattle.hprof_read.specs.Fault.{framed, IsCut, field_tags}
 use Rattle.hprof_read.proofs.Formats.{AreBytes, AreBytes-right, IsFormat, bind_ok, ok_is, both_format, times_format}
 use Rattle.hprof_read.proofs.FieldFormats.{word_format}
 use Rattle.hprof_read.proofs.PartFormats.{Triple, long_text, LongFits, long_format}

@@ -1,5 +1,5 @@
 -- A text is the wide dump of at most one list of records, and a wide dump has no fault.
-use Rattle.std.proofs.Common.{suc, take, inl, inr, ◌≡◌, ℕ, ◌<◌, ◌^◌, ◌≤◌, List, [], ◌∷◌, ◌++◌, length, get_or, refl, sym, ap, ◌∙◌, append_assoc, arith, subst}
+use Rattle.std.proofs.Common.{suc, take, inl, inr, ◌≡◌, ℕ, ◌<◌, ◌^◌, ◌≤◌, List, [], ◌++◌, length, get_or, refl, sym, ap, ◌∙◌, append_assoc, arith, subst}
 use Rattle.std.specs.Int.{w32, w64}
 use Rattle.std.proofs.lemmas.List.{append-nil, append_cancel_left, length-append, take_at}
 use Rattle.hprof_records.specs.Fields.{field}
@@ -91,7 +91,7 @@ one_header t t' w w' u u' x y f g e =
     let times : got' ≡ want' = ok_is got' want' (sym (long_number_format.again u x f.2) ∙ ap (number w64) (ap (λ (q : ℕ × List ℕ). q.1) widths) ∙ long_number_format.again u' y g.2) in
     (ap (λ (q : ℕ × List ℕ). q.0) widths, ap (λ (q : ℕ × List ℕ). q.0) times, ap (λ (q : ℕ × List ℕ). q.1) times)
 
-header_fault_not : (e : WideError) (t : List ℕ) (w time : ℕ) (body : List ℕ) → IsHeader t w time → WideHeaderFault e (wide_header_bytes t w time ++ body) → ⊥
+pub header_fault_not : (e : WideError) (t : List ℕ) (w time : ℕ) (body : List ℕ) → IsHeader t w time → WideHeaderFault e (wide_header_bytes t w time ++ body) → ⊥
 header_fault_not (errors.Magic offset) t w time body h f = f.1 (word w ++ (field 8 time ++ body)) (t, (h.0, header_pieces t w time body))
 header_fault_not (errors.IdSize offset) t w time body h f =
     let size = f.1.0 in
@@ -123,7 +123,7 @@ header_fault_not errors.OutOfMemory t w time body h f = f
 -- ---- dumps
 
 -- for each width that identifiers may have
-by_size : (P : ℕ → Type 0) → ((z : IdSize) → P (width_of z)) → (w : ℕ) → IsIdWidth w → P w
+pub by_size : (P : ℕ → Type 0) → ((z : IdSize) → P (width_of z)) → (w : ℕ) → IsIdWidth w → P w
 by_size P all w h = let z = size_of_width w h in subst P z.1 (all z.0)
 
 abbrev OneList : ℕ → Type 0
@@ -161,3 +161,29 @@ no_fault e w time records bytes d f =
           let there : WideRecordsFault w e h.3 31 = subst (λ (v : ℕ). WideRecordsFault v e h.3 31) (sym same.0) h.4.2 in
           by_size (NoFaultBehind e) (no_fault_by e) w d.1.0.1 records 31 d.1.1 (subst (λ (t : List ℕ). WideRecordsFault w e t 31) (sym same.2) there)
     ]
+
+-- ---- the longest front
+
+text_long : (t : List ℕ) → IsFormatText t → length t ≡ 18
+text_long t h = elim h [ inl e ↦ ap length e | inr e ↦ ap length e ]
+
+header_long : (t : List ℕ) (w time : ℕ) → IsFormatText t → length (wide_header_bytes t w time) ≡ 31
+header_long t w time h =
+    let behind : length (field 1 0 ++ (word w ++ (field 8 time ++ []))) ≡ 13 = refl in
+    omega (arith, text_long t h, length-append t (field 1 0 ++ (word w ++ (field 8 time ++ []))))
+
+abbrev IsNotPassed : ℕ → Type 0
+IsNotPassed w = (rs ss : List WideTop) (x y : List ℕ) → AreWideRecords w rs → AreWideRecords w ss → wide_records_bytes w rs ++ x ≡ wide_records_bytes w ss ++ y → NoWideRecord w y → length (wide_records_bytes w rs) ≤ length (wide_records_bytes w ss)
+
+pub longest_dump : (w v u u' : ℕ) (rs ss : List WideTop) (bytes longer rest more : List ℕ) → IsWideDumpOf w u rs bytes → IsWideDumpOf v u' ss longer → NoWideRecord w rest → longer ++ more ≡ bytes ++ rest → length longer ≤ length bytes
+longest_dump w v u u' rs ss bytes longer rest more f g none e =
+    let here = wide_header_bytes f.0 w u in
+    let there = wide_header_bytes g.0 v u' in
+    let whole : there ++ (wide_records_bytes v ss ++ more) ≡ here ++ (wide_records_bytes w rs ++ rest) =
+    sym (append_assoc there (wide_records_bytes v ss) more) ∙ ap (λ (t : List ℕ). t ++ more) (sym g.1.2) ∙ e ∙ ap (λ (t : List ℕ). t ++ rest) f.1.2 ∙ append_assoc here (wide_records_bytes w rs) rest in
+    let h = one_header g.0 f.0 v w u' u (wide_records_bytes v ss ++ more) (wide_records_bytes w rs ++ rest) g.1.0 f.1.0 whole in
+    let formed : AreWideRecords w ss = subst (λ (k : ℕ). AreWideRecords k ss) h.0 g.1.1 in
+    let tail : wide_records_bytes w ss ++ more ≡ wide_records_bytes w rs ++ rest = ap (λ (k : ℕ). wide_records_bytes k ss ++ more) (sym h.0) ∙ h.2 in
+    let le : length (wide_records_bytes w ss) ≤ length (wide_records_bytes w rs) = by_size IsNotPassed records_end w f.1.0.1 ss rs more rest formed f.1.1 tail none in
+    let same : length (wide_records_bytes v ss) ≡ length (wide_records_bytes w ss) = ap (λ (k : ℕ). length (wide_records_bytes k ss)) h.0 in
+    omega (arith, le, same, ap length f.1.2, ap length g.1.2, length-append here (wide_records_bytes w rs), length-append there (wide_records_bytes v ss), header_long f.0 w u f.1.0.0, header_long g.0 v u' g.1.0.0)

@@ -4,3 +4,6 @@ pub mod Segments
 pub mod Unique
 pub mod Bodies
 pub mod LawLemmas
+pub mod FirstFaults
+pub mod EveryText
+pub mod NarrowDumps

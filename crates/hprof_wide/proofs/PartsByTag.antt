@@ -1,5 +1,5 @@
 -- Each part of a wide segment is read exactly where its bytes stand.
-use Rattle.std.proofs.Common.{◌≡◌, ℕ, suc, ◌*◌, ◌<◌, Bool, true, false, List, [], ◌∷◌, ◌++◌, length, Option, Some, None, Ok, Err, refl, sym, ap, subst, ◌∙◌, arith}
+use Rattle.std.proofs.Common.{◌≡◌, ℕ, suc, ◌*◌, ◌<◌, true, List, [], ◌∷◌, ◌++◌, length, Option, Some, None, Ok, Err, refl, sym, ap, subst, ◌∙◌, arith}
 use Rattle.std.specs.Int.{w32}
 use Rattle.std.specs.List.{flat_map, concat}
 use Rattle.std.proofs.lemmas.List.{append-nil}
@@ -7,7 +7,7 @@ use Rattle.std.proofs.lemmas.List.Elements.{All-append}
 use Rattle.hprof_records.specs.Fields.{field}
 use Rattle.hprof_records.specs.Types.{value_bytes}
 use Rattle.hprof_records.specs.Parts.{word, constant_bytes}
-use Rattle.hprof_records.specs.Formed.{IsByte, IsWord, is_one_of, bare_tags, tags_with_one, tags_with_two}
+use Rattle.hprof_records.specs.Formed.{IsByte, IsWord, bare_tags, tags_with_one, tags_with_two}
 use Rattle.hprof_read.specs.declared.fields.Stop.TheVariants.{Short, Refused}
 use Rattle.hprof_read.specs.declared.parts.Kind.{Kind}
 use Rattle.hprof_read.specs.declared.parts.Kind.TheVariants as kinds

@@ -1,5 +1,5 @@
 -- Lists of wide parts have one reading.
-use Rattle.std.proofs.Common.{◌≡◌, ℕ, List, [], ◌∷◌, ◌++◌, sym, ap, ◌∙◌, All}
+use Rattle.std.proofs.Common.{◌≡◌, ℕ, List, [], ◌++◌, sym, ap, ◌∙◌, All}
 use Rattle.hprof_records.specs.Fields.{field}
 use Rattle.hprof_read.proofs.Formats.{ok_is}
 use Rattle.hprof_read.proofs.Unique.{HasOneReading, one_reading}

@@ -1,12 +1,11 @@
 -- The formats of identifiers, and of what the parts of a wide segment begin with and list.
-use Rattle.std.proofs.Common.{◌≡◌, ℕ, ◌<◌, Bool, true, false, List, [], ◌∷◌, ◌++◌, length, refl, sym, ap, ◌∙◌, append_assoc, arith, All}
+use Rattle.std.proofs.Common.{◌≡◌, ℕ, Bool, true, false, List, [], ◌∷◌, ◌++◌, refl, sym, ap, ◌∙◌, append_assoc, arith, All}
 use Rattle.std.specs.Prelude.{nat_eq}
 use Rattle.std.specs.Int.{w16, w32}
 use Rattle.std.specs.List.{flat_map}
 use Rattle.std.proofs.lemmas.List.{append-nil}
 use Rattle.std.proofs.lemmas.List.Elements.{All-weaker}
 use Rattle.hprof_records.specs.Fields.{field}
-use Rattle.hprof_records.specs.Types.{IsType}
 use Rattle.hprof_records.specs.Parts.{word, constant_bytes}
 use Rattle.hprof_records.specs.Formed.{IsByte, IsHalf, IsWord}
 use Rattle.hprof_read.specs.Reading.{Reader, number, raw, checked, both, is_type}

@@ -1,4 +1,4 @@
-use Rattle.std.proofs.Common.{◌≡◌, ℕ, List, [], ◌∷◌, ◌++◌, inl, inr, refl, sym, ap, ◌∙◌}
+use Rattle.std.proofs.Common.{ℕ, List, ◌++◌, inl, inr, refl, sym, ap, ◌∙◌}
 use Rattle.hprof_records.specs.Fields.{field}
 use Rattle.hprof_read.proofs.Header.{begins}
 use Rattle.hprof_wide.specs.Dump.{text_2, text_3}
