@@ -1,7 +1,6 @@
 -- A dump with identifiers of 4 bytes is a wide dump with the same records.
 use Rattle.std.proofs.Common.{◌≡◌, ℕ, ◌<◌, ◌^◌, Bool, true, false, cond, inl, inr, List, [], ◌∷◌, ◌++◌, length, map, None, Some, refl, sym, ap, subst, ◌∙◌, All}
 use Rattle.std.specs.Prelude.{nat_eq}
-use Rattle.std.specs.List.{concat}
 use Rattle.std.proofs.lemmas.Bool.{eqb-true}
 use Rattle.std.proofs.lemmas.List.Elements.{All-nil, All-cons, All-head, All-tail, All-weaker}
 use Rattle.hprof_records.specs.declared.sub_record.SubRecord.{SubRecord}
@@ -14,6 +13,7 @@ use Rattle.hprof_records.specs.Parts.{word, bytes_of_part, bytes_of_parts}
 use Rattle.hprof_records.specs.Records.{body_of, bytes_of_record, bytes_of_records, header_bytes, dump_bytes}
 use Rattle.hprof_records.specs.Formed.{IsWord, IsConstant, IsStatic, IsPart}
 use Rattle.hprof_records.specs.Dump.{HasFields, IsRecord, AreRecords}
+use Rattle.hprof_read.specs.Fault.{framed}
 use Rattle.hprof_wide.specs.Parts.{wide_value_bytes, further_width, wide_part_bytes, wide_parts_bytes}
 use Rattle.hprof_wide.specs.Records.{wide_body_of, wide_time_of, wide_record_bytes, wide_records_bytes}
 use Rattle.hprof_wide.specs.Formed.{IsId, IsWideConstant, IsWideStatic, IsWidePart}
@@ -96,9 +96,6 @@ time_fits (Other time tag body) fit = fit.0
 
 record_fits : (r : TopRecord) → IsRecord r → IsWideRecord 4 (wide_record_of r)
 record_fits r fit = (time_fits r fit, fields_fit r fit.1, subst (λ (b : List ℕ). IsWord (length b)) (sym (body_same r)) fit.2)
-
-abbrev framed : ℕ → ℕ → List ℕ → List ℕ
-framed tag time body = concat (field 1 tag ∷ word time ∷ word (length body) ∷ body ∷ [])
 
 record_same : (r : TopRecord) → wide_record_bytes 4 (wide_record_of r) ≡ bytes_of_record r
 record_same (Text time id bytes) = refl

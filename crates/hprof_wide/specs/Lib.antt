@@ -5,3 +5,4 @@ pub mod Dump
 pub mod Narrow
 pub mod Fault
 pub mod Reading
+pub mod Examples

@@ -4,6 +4,7 @@
 
 mod class_parts;
 mod dump;
+mod examples;
 mod ids;
 mod laws;
 mod parts;
