@@ -7,4 +7,4 @@ mod lines;
 mod put;
 
 pub use lines::write_listing;
-pub use put::{id_of, put_pieces};
+pub use put::{id_of, put_piece, put_pieces};
