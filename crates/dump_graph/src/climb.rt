@@ -1,6 +1,7 @@
 //! How far one comes from a class by its superclasses. It is worked out for all classes together, by putting climbs of as
 //! many steps as twice those before one behind the other, so that neither long chains of classes nor cycles make it slow.
-ghost use Rattle.std.specs.Prelude.{◌≡◌, ℕ, ◌<◌, length, map, get_or, IfOk, All};
+ghost use Rattle.std.specs.Prelude.{◌≡◌, ℕ, ◌<◌, List, length, map, get_or, IfOk, All};
+ghost use Rattle.dump_graph.specs.Classes.{Class};
 ghost use Rattle.std.specs.List.{range_with_len};
 ghost use Rattle.dump_graph.specs.Climbing.{AreClimbs, ComesWithin, if_fielded, join, join_with, lost, own_codes, standing, step_from};
 
@@ -11,7 +12,7 @@ use std::alloc::{AllocError, Global};
 /// Where one stands after some steps up from a class: behind the last superclass, at a class, or at a superclass that no
 /// class dump tells.
 #[derive(Clone, Copy, Debug, PartialEq, Eq)]
-pub(crate) enum Up {
+pub enum Up {
     Top,
     Above(usize),
     Lost,
@@ -19,9 +20,9 @@ pub(crate) enum Up {
 
 /// Some steps up from a class: the first of the classes above it that has fields, and where one stands after them.
 #[derive(Clone, Copy, Debug, PartialEq, Eq)]
-pub(crate) struct Climb {
-    pub(crate) fielded: Option<usize>,
-    pub(crate) next: Up,
+pub struct Climb {
+    pub fielded: Option<usize>,
+    pub next: Up,
 }
 
 /// A climb, and from where it comes to the one of these that begins there.
@@ -119,6 +120,24 @@ fn all_steps(
     Ok(steps)
 }
 
+/// The climbs of so many steps from all classes, by those of one step.
+pub fn climbed_by(alloc: Global, one: Vec<Climb>, steps: usize) -> Result<Vec<Climb>, AllocError>
+    requires { (known : List Class) × (one.items ≡ map (step_from known) known) }
+    ensures { IfOk result (λ climbs. (known : List Class) → one.items ≡ map (step_from known) known → AreClimbs known steps climbs.items) }
+{
+    let mut climbs = all_standing(alloc, one.len())?;
+    let mut power = one;
+    let mut left = steps;
+    while left > 0 {
+        if left % 2 == 1 {
+            climbs = all_joined(alloc, &climbs, &power)?;
+        }
+        power = all_joined(alloc, &power, &power)?;
+        left /= 2;
+    }
+    Ok(climbs)
+}
+
 /// The climbs of so many steps from all classes.
 pub(crate) fn climbed(
     alloc: Global,
@@ -129,15 +148,6 @@ pub(crate) fn climbed(
     requires { numbers.now ≡ map (λ c. c.id) known.now }
     ensures { IfOk result (λ climbs. AreClimbs known.now steps climbs.items) }
 {
-    let mut climbs = all_standing(alloc, known.len())?;
-    let mut power = all_steps(alloc, numbers, known)?;
-    let mut left = steps;
-    while left > 0 {
-        if left % 2 == 1 {
-            climbs = all_joined(alloc, &climbs, &power)?;
-        }
-        power = all_joined(alloc, &power, &power)?;
-        left /= 2;
-    }
-    Ok(climbs)
+    let one = all_steps(alloc, numbers, known)?;
+    climbed_by(alloc, one, steps)
 }

@@ -11,5 +11,6 @@ mod numbers;
 mod parts;
 mod references;
 
+pub use climb::{Climb, Up, climbed_by};
 pub use graph::DumpGraph;
 pub use laws::layouts_lead_up;

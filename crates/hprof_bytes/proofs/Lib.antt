@@ -1,1 +1,2 @@
 pub mod ClassLists
+pub mod Frames
