@@ -1,0 +1,6 @@
+pub mod Names
+pub mod Values
+pub mod Layouts
+pub mod Identifiers
+pub mod Converted
+pub mod Missing
