@@ -10,5 +10,10 @@ mod read_error;
 mod records;
 
 pub use dump::{Dump, TopList, read_dump};
+pub use fields::{
+    Halt, SHORT, Stop, any_type, byte, bytes_of, counted, half, primitive_type, word,
+};
 pub use laws::{dump_or_fault, first_faults, longest_fronts, no_fault_in_dumps, one_list};
+pub use parts::{Kind, kind_of_tag};
 pub use read_error::ReadError;
+pub use records::read_frame;

@@ -27,7 +27,7 @@ pub enum Kind {
 }
 
 /// What a tag tells. `None` where no part has it.
-fn kind_of_tag(tag: u8) -> Option<Kind>
+pub fn kind_of_tag(tag: u8) -> Option<Kind>
     ensures { result ≡ kind_of tag }
 {
     match tag {

@@ -16,7 +16,7 @@ use std::alloc::Global;
 
 /// A record's tag, its time and its body, where they stand.
 #[tactic(auto, unfolding(crate::specs::Reading::frame))]
-fn read_frame(bytes: &[u8]) -> Result<((u8, (u32, &[u8])), &[u8]), Halt>
+pub fn read_frame(bytes: &[u8]) -> Result<((u8, (u32, &[u8])), &[u8]), Halt>
     ensures { Gives (λ x. ((x.0.0, (x.0.1.0, x.0.1.1.now)), x.1.now)) result (frame bytes.now) }
 {
     let (tag, rest) = byte(bytes)?;

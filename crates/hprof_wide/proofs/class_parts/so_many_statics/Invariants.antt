@@ -1,0 +1,8 @@
+use Rattle.std.proofs.Common.{◌≡◌, ◌-◌}
+use Rattle.hprof_read.specs.Reading.{times}
+use Rattle.hprof_wide.specs.Reading.{static_field}
+use Rattle.hprof_read.proofs.Loop.{with_front}
+use Rattle.hprof_wide.proofs.class_parts.so_many_statics.Given as goal
+
+abbrev pub invariant-loop : goal.invariant-loop
+invariant-loop l = with_front l.list (times (l.count - l.counter) (static_field l.size) l.rest) ≡ times l.count (static_field l.size) l.bytes
