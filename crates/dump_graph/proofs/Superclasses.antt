@@ -7,7 +7,7 @@ use Rattle.std.proofs.lemmas.List.{append-nil, length-map}
 use Rattle.std.proofs.lemmas.Map.Made.{length-le_from_is_member}
 use Rattle.dump_graph.specs.Classes.{Class, codes_within, first_class, layout}
 use Rattle.dump_graph.specs.Superclasses.{LeadUp}
-use Rattle.dump_graph.proofs.Positions.{equal_from, nat_eq-same}
+use Rattle.dump_graph.proofs.Positions.{equal_from}
 
 abbrev ids : List Class → List ℕ
 ids cs = map (λ c. c.id) cs

@@ -1,4 +1,5 @@
 pub mod Names
+pub mod Placed
 pub mod Values
 pub mod Layouts
 pub mod Identifiers

@@ -1,18 +1,23 @@
 -- Values of fields, in which identifiers have w bytes, and the identifiers in them.
-use Rattle.std.specs.Prelude.{ℕ, nat_eq, List, [], ◌∷◌, take, drop, if◌then◌else◌}
+use Rattle.std.specs.Prelude.{ℕ, nat_eq, nat_le, List, [], ◌∷◌, length, take, drop, Option, None, Some, unwrap_or, if◌then◌else◌}
 use Rattle.std.specs.List.{flat_map}
-use Rattle.std.specs.Int.{w32, w64, from_be_bytes}
+use Rattle.std.specs.Int.{w64, from_be_bytes}
 use Rattle.hprof_records.specs.Parts.{word}
 use Rattle.hprof_wide.specs.Parts.{wide_value_bytes}
+use Rattle.dump_graph.specs.References.{first_id}
 use Rattle.hprof_convert.specs.Names.{rename}
 
 -- the code of the type of references
 abbrev pub reference_code : ℕ
 reference_code = 2
 
--- the identifier that a value is
+-- the identifier of 8 bytes that stands first in some bytes, where they are enough
+abbrev pub long_id : List ℕ → Option ℕ
+long_id bytes = if nat_le 8 (length bytes) then Some (from_be_bytes w64 (take 8 bytes)) else None
+
+-- the identifier that a value is: 0 where it has too few bytes
 abbrev pub id_in : ℕ → List ℕ → ℕ
-id_in w value = if nat_eq w 8 then from_be_bytes w64 (take 8 value) else from_be_bytes w32 (take 4 value)
+id_in w value = unwrap_or (if nat_eq w 8 then long_id value else first_id value) 0
 
 -- the identifiers in a value, by its type
 abbrev pub ids_in : ℕ → ℕ × List ℕ → List ℕ

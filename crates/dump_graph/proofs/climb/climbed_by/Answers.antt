@@ -1,7 +1,6 @@
-use Rattle.std.proofs.Common.{◌≡◌, ◌/◌, List, arith, ap, sym, ◌∙◌, length, map}
+use Rattle.std.proofs.Common.{◌/◌, arith, ap, ◌∙◌, length, map}
 use Rattle.std.specs.List.{range_with_len}
 use Rattle.std.proofs.lemmas.List.{length-map}
-use Rattle.dump_graph.specs.Classes.{Class}
 use Rattle.dump_graph.specs.Climbing.{standing, step_from}
 use Rattle.dump_graph.proofs.ClimbTables.{climbs-begin, climbs-end, climbs-even, climbs-odd, climbs-within}
 use Rattle.dump_graph.proofs.climb.climbed_by.Goals as goal
@@ -10,7 +9,7 @@ use Rattle.dump_graph.proofs.climb.climbed_by.Goals.{then-left-eq1+in_ok-climbs-
 pub loop-left-init : goal.loop-left-init
 loop-left-init c = λ known one.
     climbs-begin known c.args.steps c.in_ok-climbs.climbs.items c.args.one.items
-    (c.in_ok-climbs.ensures ∙ ap (λ n. map standing (range_with_len 0 n)) (c.len.ensures ∙ (ap length one ∙ length-map known (step_from known)))) one
+    (c.in_ok-climbs.ensures ∙ ap (λ n. map standing (range_with_len 0 n)) (c.len.ensures ∙ (c.args.one.ok.0 ∙ (ap length one ∙ length-map known (step_from known))))) one
 
 pub all_joined-requires : goal.all_joined-requires
 all_joined-requires c =

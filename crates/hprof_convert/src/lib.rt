@@ -1,0 +1,9 @@
+//! A wide dump, converted: a dump of 1.0.3 whose identifiers have 4 bytes, numbered in the order in which they first
+//! appear.
+#![tactic(auto)]
+
+mod convert_error;
+mod places;
+mod values;
+
+pub use convert_error::ConvertError;
