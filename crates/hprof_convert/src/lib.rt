@@ -2,6 +2,7 @@
 //! appear.
 #![tactic(auto)]
 
+mod classes;
 mod convert_error;
 mod places;
 mod values;
