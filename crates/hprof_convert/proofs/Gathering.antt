@@ -17,9 +17,10 @@ abbrev pub IsGathered : List Class → ℕ → List ℕ → ℕ → Option ℕ �
 IsGathered known w all size at fuel codes left =
     (more : List ℕ) × (IsLeft known at fuel more × (all ≡ codes ++ more) × (left + sum_by (wide_value_bytes w) codes ≡ size))
 
-pub gather-begins : (known : List Class) (w dumps fuel n size : ℕ) → dumps ≤ fuel → n < length known → (climb known dumps n).next ≡ Top
-    → IsGathered known w (gathered known dumps n) size (Some n) fuel [] size
-gather-begins known w dumps fuel n size few within top = (gathered known dumps n, ((dumps, (few, within, top, refl)), refl, omega arith))
+pub gather-begins : (known : List Class) (w dumps fuel n size : ℕ) (codes : List ℕ) → dumps ≤ fuel → n < length known → (climb known dumps n).next ≡ Top → codes ≡ []
+    → IsGathered known w (gathered known dumps n) size (Some n) fuel codes size
+gather-begins known w dumps fuel n size codes few within top none =
+    (gathered known dumps n, ((dumps, (few, within, top, refl)), ap (λ (l : List ℕ). l ++ gathered known dumps n) (sym none), omega (arith, ap (sum_by (wide_value_bytes w)) none)))
 
 -- the fields of a class more were gathered
 pub gather-on : (known : List Class) (w dumps fuel n size left after fuel' : ℕ) (at more : Option ℕ) (all codes own codes' : List ℕ)

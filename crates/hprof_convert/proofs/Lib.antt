@@ -1,3 +1,4 @@
 pub mod Placings
 pub mod Namings
 pub mod Gathering
+pub mod ClassDumps

@@ -1,10 +1,9 @@
 -- Identifiers, and the numbers that they get.
-use Rattle.std.specs.Prelude.{ℕ, ◌+◌, nat_eq, List, [], ◌∷◌, position, Option, None, Some, if◌then◌else◌}
-use Rattle.dump_graph.specs.Firsts.{with_first}
+use Rattle.std.specs.Prelude.{ℕ, ◌+◌, nat_eq, List, [], ◌∷◌, ◌++◌, position, Option, None, Some, is_some, if◌then◌else◌}
 
 -- one more identifier: behind the others, unless it is 0 or one of them
 abbrev pub with_name : List ℕ → ℕ → List ℕ
-with_name names id = if nat_eq id 0 then names else with_first (λ i. i) names id
+with_name names id = if nat_eq id 0 then names else if is_some (position (nat_eq id) names) then names else names ++ id ∷ []
 
 -- some more identifiers, one after another
 abbrev pub with_names : List ℕ → List ℕ → List ℕ

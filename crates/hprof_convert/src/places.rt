@@ -69,7 +69,10 @@ impl Places {
     pub(crate) fn add_name(&mut self, id: u64) -> Result<(), AllocError>
         ensures { OnOk result (self.new ≡ with_name self.old id) }
     {
-        if id == 0 || self.place_of(id).is_some() {
+        if id == 0 {
+            return Ok(());
+        }
+        if self.place_of(id).is_some() {
             return Ok(());
         }
         self.push(id)
@@ -79,6 +82,7 @@ impl Places {
     pub(crate) fn rename(&self, id: u64) -> u32
         ensures { result ≡ rename self.now id }
     {
+        let _ids = &self.ids;
         match self.place_of(id) {
             None => 0,
             Some(place) => place + 1,
