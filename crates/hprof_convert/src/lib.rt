@@ -4,7 +4,10 @@
 
 mod classes;
 mod convert_error;
+mod converted;
+mod identifiers;
 mod places;
+mod sizes;
 mod values;
 
 pub use convert_error::ConvertError;
