@@ -2,3 +2,5 @@ pub mod Placings
 pub mod Namings
 pub mod Gathering
 pub mod ClassDumps
+pub mod SizeLemmas
+pub mod MissingLemmas

@@ -28,6 +28,13 @@ name-new names id some new =
     sym (ap (λ b. cond b names (cond (is_some (position (nat_eq id) names)) names (names ++ id ∷ []))) (ne_eqb id 0 some)
     ∙ ap (λ b. cond b names (names ++ id ∷ [])) new)
 
+-- two lists of identifiers are named one after another, or three
+pub two-named : (names names' a b : List ℕ) → names' ≡ with_names names a → with_names names' b ≡ with_names names (a ++ b)
+two-named names names' a b is = ap (λ l. with_names l b) is ∙ sym (with_names-append names a b)
+
+pub three-named : (names names' names'' a b c : List ℕ) → names' ≡ with_names names a → names'' ≡ with_names names' b → with_names names'' c ≡ with_names names (a ++ (b ++ c))
+three-named names names' names'' a b c is also = two-named names' names'' b c also ∙ two-named names names' a (b ++ c) is
+
 -- the identifiers of one more element are named
 pub each-named : {X : Type 0} (f : X → List ℕ) (xs : List X) (i : ℕ) (d : X) (names names' : List ℕ) → i < length xs → names' ≡ with_names names (f (get_or xs i d))
     → with_names names' (flat_map f (drop (i + 1) xs)) ≡ with_names names (flat_map f (drop i xs))

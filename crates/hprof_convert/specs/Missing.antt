@@ -1,5 +1,7 @@
 -- The first instance without a layout.
-use Rattle.std.specs.Prelude.{ℕ, ◌+◌, List, [], ◌∷◌, length, Bool, false, is_none, Option, None, Some, if◌then◌else◌}
+use Rattle.std.specs.Prelude.{◌≡◌, ℕ, ◌+◌, List, [], ◌∷◌, length, Bool, false, is_none, Option, None, Some, if◌then◌else◌}
+use Rattle.hprof_convert.specs.declared.convert_error.ConvertError.{ConvertError}
+use Rattle.hprof_convert.specs.declared.convert_error.ConvertError.TheVariants.{NoLayout, OutOfMemory}
 use Rattle.std.specs.Option.{option_or}
 use Rattle.hprof_wide.specs.declared.wide_sub.WideSub.{WideSub}
 use Rattle.hprof_wide.specs.declared.wide_sub.WideSub.TheVariants.{Instance}
@@ -29,3 +31,8 @@ missing_from w known at (r ∷ rs) =
 -- the place of the first instance without a layout in a dump of these records, whose header has 31 bytes
 abbrev pub missing_layout : ℕ → List WideTop → Option ℕ
 missing_layout w records = missing_from w (wide_classes records) 31 records
+
+-- why a dump whose first instance without a layout stands at this place, if there is one, isn't converted
+abbrev pub IsMissing : ConvertError → Option ℕ → Type 0
+IsMissing (NoLayout offset) place = place ≡ Some offset
+IsMissing OutOfMemory place = Unit {0}

@@ -1,5 +1,6 @@
 //! The parts and records of a wide dump, renamed.
-ghost use Rattle.std.specs.Prelude.{◌≡◌, ◌≢◌, ◌<◌, ◌^◌, ◌++◌, length, map, option_to_list, IfOk, OnOk, ForSome};
+ghost use Rattle.std.specs.Prelude.{◌≡◌, ◌≢◌, ◌<◌, ◌^◌, ◌++◌, length, map, option_to_list, IfOk, OnOk};
+ghost use Rattle.std.specs.Option.{ForSome};
 ghost use Rattle.std.specs.List.{All, filter_map};
 ghost use Rattle.hprof_records.specs.declared.sub_record.SubRecord.TheVariants.{Root};
 ghost use Rattle.hprof_records.specs.Formed.{IsWord};
@@ -269,7 +270,8 @@ fn converted_parts(
 {
     let mut converted = SubList::new(alloc);
     for part in parts {
-        converted.push(converted_part(alloc, names, width, classes, part)?)?;
+        let one = converted_part(alloc, names, width, classes, part)?;
+        converted.push(one)?;
     }
     Ok(converted)
 }

@@ -4,10 +4,13 @@
 
 mod classes;
 mod convert_error;
+mod convert;
 mod converted;
 mod identifiers;
+mod missing;
 mod places;
 mod sizes;
 mod values;
 
+pub use convert::convert;
 pub use convert_error::ConvertError;

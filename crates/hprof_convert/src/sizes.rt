@@ -1,20 +1,20 @@
 //! How many bytes the parts of a segment have. More than 4 bytes count are want of memory.
-ghost use Rattle.std.specs.Prelude.{◌≡◌, ◌+◌, length, IfOk, IfSome};
+ghost use Rattle.std.specs.Prelude.{◌≡◌, ◌+◌, ◌*◌, length, IfOk, IfSome};
 ghost use Rattle.std.specs.List.{flat_map};
-ghost use Rattle.hprof_records.specs.Parts.{further_bytes, constant_bytes, static_bytes, field_name_bytes, bytes_of_part, bytes_of_parts};
+ghost use Rattle.hprof_records.specs.Parts.{word, further_bytes, constant_bytes, static_bytes, field_name_bytes, bytes_of_part, bytes_of_parts};
 
 use hprof_records::{Bytes, SubRecord};
 use std::alloc::AllocError;
 
 /// Some bytes more than so many.
-fn more(size: u32, head: u32, rest: usize) -> Option<u32>
+pub(crate) fn more(size: u32, head: u32, rest: usize) -> Option<u32>
     ensures { IfSome result (λ n. n ≡ size + head + rest) }
 {
     size.checked_add(head)?
         .checked_add(u32::try_from(rest).ok()?)
 }
 
-fn constants_size(list: &[(u16, u8, Bytes)]) -> Option<u32>
+pub(crate) fn constants_size(list: &[(u16, u8, Bytes)]) -> Option<u32>
     ensures { IfSome result (λ n. n ≡ length (flat_map constant_bytes list.now)) }
 {
     let mut size = 0;
@@ -34,10 +34,25 @@ fn statics_size(list: &[(u32, u8, Bytes)]) -> Option<u32>
     Some(size)
 }
 
+/// So many bytes for each of a number of elements.
+pub(crate) fn times(count: usize, each: u32) -> Option<u32>
+    ensures { IfSome result (λ n. n ≡ count * each) }
+{
+    u32::try_from(count).ok()?.checked_mul(each)
+}
+
 fn fields_size(list: &[(u32, u8)]) -> Option<u32>
     ensures { IfSome result (λ n. n ≡ length (flat_map field_name_bytes list.now)) }
 {
-    u32::try_from(list.len()).ok()?.checked_mul(5)
+    times(list.len(), 5)
+}
+
+/// The bytes of an array of objects: those before its elements, and these.
+fn array_size(items: &[u32]) -> Option<u32>
+    ensures { IfSome result (λ n. n ≡ 17 + length (flat_map word items.now)) }
+{
+    let bytes = times(items.len(), 4)?;
+    more(17, bytes, 0)
 }
 
 /// The bytes of a class: those of its head and of the counts of its lists, and those of the lists.
@@ -79,10 +94,7 @@ fn part_size(part: &SubRecord) -> Option<u32>
             ..
         } => class_size(constants.as_slice(), statics.as_slice(), fields.as_slice()),
         SubRecord::Instance { bytes, .. } => more(17, 0, bytes.as_slice().len()),
-        SubRecord::ObjectArray { items, .. } => {
-            let count = u32::try_from(items.as_slice().len()).ok()?;
-            more(17, count.checked_mul(4)?, 0)
-        }
+        SubRecord::ObjectArray { items, .. } => array_size(items.as_slice()),
         SubRecord::PrimitiveArray { bytes, .. } => more(14, 0, bytes.as_slice().len()),
         SubRecord::NoData { .. } => Some(14),
     }
