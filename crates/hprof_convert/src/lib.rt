@@ -3,8 +3,8 @@
 #![tactic(auto)]
 
 mod classes;
+mod conversion;
 mod convert_error;
-mod convert;
 mod converted;
 mod identifiers;
 mod missing;
@@ -12,5 +12,5 @@ mod places;
 mod sizes;
 mod values;
 
-pub use convert::convert;
+pub use conversion::convert;
 pub use convert_error::ConvertError;
