@@ -4,3 +4,4 @@ pub mod Gathering
 pub mod ClassDumps
 pub mod SizeLemmas
 pub mod MissingLemmas
+pub mod Renaming

@@ -34,12 +34,20 @@ fn lacks_layout(
     }
 }
 
+/// The bytes of a static field more than so many.
+fn with_static(width: u32, size: u32, one: &(u64, u8, Bytes)) -> Option<u32>
+    ensures { IfSome result (λ n. n ≡ size + length (wide_static_bytes width one.now)) }
+{
+    let head = more(size, width, 1)?;
+    more(head, 0, one.2.as_slice().len())
+}
+
 fn wide_statics_size(width: u32, list: &[(u64, u8, Bytes)]) -> Option<u32>
     ensures { IfSome result (λ n. n ≡ length (flat_map (wide_static_bytes width) list.now)) }
 {
     let mut size = 0;
     for one in list {
-        size = more(more(size, width, 1)?, 0, one.2.as_slice().len())?;
+        size = with_static(width, size, one)?;
     }
     Some(size)
 }
@@ -47,7 +55,8 @@ fn wide_statics_size(width: u32, list: &[(u64, u8, Bytes)]) -> Option<u32>
 fn wide_fields_size(width: u32, list: &[(u64, u8)]) -> Option<u32>
     ensures { IfSome result (λ n. n ≡ length (flat_map (wide_field_name_bytes width) list.now)) }
 {
-    times(list.len(), width.checked_add(1)?)
+    let each = more(width, 1, 0)?;
+    times(list.len(), each)
 }
 
 /// The bytes of a wide class: 14 and 7 identifiers, and those of its lists.
