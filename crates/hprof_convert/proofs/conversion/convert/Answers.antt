@@ -9,8 +9,8 @@ use Rattle.hprof_convert.proofs.conversion.convert.Goals as goal
 pub returns-clause-converted : goal.returns-clause-converted
 returns-clause-converted c =
     let w = c.args.dump.now.width in
-    let records = c.as_slice.result.now in
+    let records = c.as_slice-records.result.now in
     c.in_ok-top.ensures
     ∙ (ap (λ (n : List ℕ). filter_map (converted_record w c.in_ok-classes.classes n) records) c.in_ok-names.ensures
     ∙ (ap (λ (k : List Class). filter_map (converted_record w k (named (flat_map (ids_of_record w k) records))) records) c.in_ok-classes.ensures
-    ∙ ap (converted w) c.as_slice.ensures))
+    ∙ ap (converted w) c.as_slice-records.ensures))
