@@ -108,7 +108,7 @@ segment_not tag s f =
     let no : is_one_of field_tags tag ≡ false = listed (λ t. is_one_of field_tags t ≡ false) segment_tags tag (refl, (refl, tt)) s in
     let both = sym f ∙ no in absurd cc
 
-other_not : (tag : ℕ) → is_one_of read_tags tag ≡ false → is_one_of field_tags tag ≡ true → ⊥
+pub other_not : (tag : ℕ) → is_one_of read_tags tag ≡ false → is_one_of field_tags tag ≡ true → ⊥
 other_not tag o f =
     let yes : is_one_of read_tags tag ≡ true = listed (λ t. is_one_of read_tags t ≡ true) field_tags tag (refl, (refl, (refl, tt))) f in
     let both = sym yes ∙ o in absurd cc
@@ -201,7 +201,7 @@ tag_fits (Other t g bytes) fit = fit.0
 
 -- ---- frames never refuse a byte
 
-abbrev IsCalm : {A : Type 0} → Reader A → Type 0
+abbrev pub IsCalm : {A : Type 0} → Reader A → Type 0
 IsCalm {A} read = (bytes : List ℕ) (left : ℕ) → read bytes ≡ Err (Refused left) → ⊥
 
 calm : (t : Bool) {A : Type 0} (x : A) (left : ℕ) → cond t (Err Short) (Ok x) ≡ Err (Refused left) → ⊥
@@ -246,7 +246,7 @@ counted_calm : IsCalm counted_bytes
 unfolding counted_bytes
 counted_calm = made_calm (both (number w32) raw) second_of (both_calm (number w32) raw (number_calm w32) raw_calm)
 
-frame_calm : IsCalm frame
+pub frame_calm : IsCalm frame
 unfolding frame
 frame_calm = both_calm (number w8) (λ _. both (number w32) (λ _. counted_bytes)) (number_calm w8) (λ _. both_calm (number w32) (λ _. counted_bytes) (number_calm w32) (λ _. counted_calm))
 
@@ -304,7 +304,7 @@ cut_record bytes (Refused left) fits e = absurd (frame_calm bytes left e)
 
 -- ---- a body's fault leaves no fields
 
-field_not : (tag n : ℕ) → is_one_of segment_tags tag ≡ true → n ≡ tag → is_one_of segment_tags n ≡ false → ⊥
+pub field_not : (tag n : ℕ) → is_one_of segment_tags tag ≡ true → n ≡ tag → is_one_of segment_tags n ≡ false → ⊥
 field_not tag n s same none = let both = sym (ap (is_one_of segment_tags) same ∙ s) ∙ none in absurd cc
 
 segment_lacks : (e : ReadError) (tag : ℕ) (body : List ℕ) (at : ℕ) → is_one_of segment_tags tag ≡ true → BodyFault e body at → LacksFields tag body
@@ -365,12 +365,12 @@ cut_fault bytes h s o fits is failed =
 -- ---- a tag, a time and a body are those of one record
 
 -- a record's kind, and what a tag tells of it
-abbrev kind_by : Bool → Bool → ℕ → ℕ
+abbrev pub kind_by : Bool → Bool → ℕ → ℕ
 kind_by true is_read tag = 12
 kind_by false true tag = tag
 kind_by false false tag = 99
 
-abbrev kind_by_tag : ℕ → ℕ
+abbrev pub kind_by_tag : ℕ → ℕ
 kind_by_tag tag = kind_by (is_one_of segment_tags tag) (is_one_of read_tags tag) tag
 
 abbrev record_kind : TopRecord → ℕ
@@ -380,7 +380,7 @@ record_kind (Trace t serial thread frames rest) = 5
 record_kind (Segment t g size parts) = 12
 record_kind (Other t g bytes) = 99
 
-other_kind : (tag : ℕ) (s : Bool) → is_one_of segment_tags tag ≡ s → is_one_of read_tags tag ≡ false → kind_by s (is_one_of read_tags tag) tag ≡ 99
+pub other_kind : (tag : ℕ) (s : Bool) → is_one_of segment_tags tag ≡ s → is_one_of read_tags tag ≡ false → kind_by s (is_one_of read_tags tag) tag ≡ 99
 other_kind tag true s o =
     let yes : is_one_of read_tags tag ≡ true = listed (λ t. is_one_of read_tags t ≡ true) segment_tags tag (refl, (refl, tt)) s in
     let both = sym yes ∙ o in absurd cc
@@ -393,7 +393,7 @@ kind_told (Trace t serial thread frames rest) fit = refl
 kind_told (Segment t g size parts) fit = ap (λ (b : Bool). kind_by b (is_one_of read_tags g) g) fit.0
 kind_told (Other t g bytes) fit = other_kind g (is_one_of segment_tags g) refl fit.1
 
-same_rest : (xs ys : List ℕ) → xs ++ [] ≡ ys ++ [] → xs ≡ ys
+pub same_rest : (xs ys : List ℕ) → xs ++ [] ≡ ys ++ [] → xs ≡ ys
 same_rest xs ys e = sym (append-nil xs) ∙ e ∙ append-nil ys
 
 pub same_fields : (r s : TopRecord) → HasFields r → HasFields s → tag_of r ≡ tag_of s → time_of r ≡ time_of s → body_of r ≡ body_of s → r ≡ s

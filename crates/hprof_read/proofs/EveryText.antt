@@ -28,7 +28,7 @@ use Rattle.hprof_read.proofs.Bodies.{IsRead, text_takes, load_takes, trace_takes
 use Rattle.hprof_read.proofs.Header.{begins, begins_not, other_word}
 
 -- reading gave a value, or it stopped
-cases_read : {A : Type 0} (r : Result A Stop) → ((x : A) × (r ≡ Ok x)) ⊎ ((s : Stop) × (r ≡ Err s))
+pub cases_read : {A : Type 0} (r : Result A Stop) → ((x : A) × (r ≡ Ok x)) ⊎ ((s : Stop) × (r ≡ Err s))
 cases_read (Ok x) = inl (x, refl)
 cases_read (Err s) = inr (s, refl)
 

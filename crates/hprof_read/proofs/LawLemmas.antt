@@ -17,7 +17,7 @@ use Rattle.hprof_read.proofs.FieldFormats.{long_number_format}
 use Rattle.hprof_read.proofs.Unique.{HasOneReading, one_reading, not_past, parts_end}
 use Rattle.hprof_read.proofs.Bodies.{record_again, same_fields, segment_not, frame_format, framed_is}
 
-abbrev FrameParts : Type 0
+abbrev pub FrameParts : Type 0
 FrameParts = (ℕ × (ℕ × List ℕ)) × List ℕ
 
 -- no record's bytes begin another's
@@ -99,7 +99,7 @@ no_fault e time records small formed f =
 -- ---- at most one first fault
 
 -- of two ways to cut bytes one goes at least as far
-ahead : (xs ys : List ℕ) (a b : ℕ) (us vs : List ℕ) → xs ++ a ∷ us ≡ ys ++ b ∷ vs → (length xs ≡ length ys) ⊎ ((more : List ℕ) × (ys ≡ (xs ++ a ∷ []) ++ more)) ⊎ ((more : List ℕ) × (xs ≡ (ys ++ b ∷ []) ++ more))
+pub ahead : (xs ys : List ℕ) (a b : ℕ) (us vs : List ℕ) → xs ++ a ∷ us ≡ ys ++ b ∷ vs → (length xs ≡ length ys) ⊎ ((more : List ℕ) × (ys ≡ (xs ++ a ∷ []) ++ more)) ⊎ ((more : List ℕ) × (xs ≡ (ys ++ b ∷ []) ++ more))
 ahead [] [] a b us vs e = inl refl
 ahead [] (y ∷ ys) a b us vs e = let head : a ≡ y = cc in inr (inl (ys, ap (λ (n : ℕ). n ∷ ys) (sym head)))
 ahead (x ∷ xs) [] a b us vs e = let head : x ≡ b = cc in inr (inr (xs, ap (λ (n : ℕ). n ∷ xs) head))
@@ -171,10 +171,10 @@ one_content_fault e f tag body o g h =
       | inr a ↦ elim h [ inl b ↦ absurd (segment_not tag a.0 b.1.0) | inr b ↦ one_body_fault e f body (o + 9) a.1 b.1 ]
     ]
 
-framed_again : (tag time : ℕ) (body rest : List ℕ) → IsFramed tag time body → frame (framed tag time body ++ rest) ≡ Ok ((tag, (time, body)), rest)
+pub framed_again : (tag time : ℕ) (body rest : List ℕ) → IsFramed tag time body → frame (framed tag time body ++ rest) ≡ Ok ((tag, (time, body)), rest)
 framed_again tag time body rest fit = ap (λ (t : List ℕ). frame (t ++ rest)) (framed_is tag time body) ∙ frame_format.again (tag, (time, body)) rest (fit.0, (fit.1, (fit.2, fit.3)))
 
-cut_clash : (rest : List ℕ) (tag time : ℕ) (body after : List ℕ) → IsCut rest → IsFramed tag time body → rest ≡ framed tag time body ++ after → ⊥
+pub cut_clash : (rest : List ℕ) (tag time : ℕ) (body after : List ℕ) → IsCut rest → IsFramed tag time body → rest ≡ framed tag time body ++ after → ⊥
 cut_clash rest tag time body after c fit e =
     let got : FrameParts = ((c.0, (c.1, c.2)), []) in
     let want : FrameParts = ((tag, (time, body)), after ++ c.3 ∷ c.4) in

@@ -110,14 +110,14 @@ type_by : (code : ℕ) (is_two : Bool) → nat_eq code 2 ≡ is_two → cond is_
 type_by code true e h = inl (eqb-true _ _ e)
 type_by code false e h = inr (primitive_from code h)
 
-type_from : (code : ℕ) → is_type code ≡ true → IsType code
+pub type_from : (code : ℕ) → is_type code ≡ true → IsType code
 type_from code h = type_by code (nat_eq code 2) refl h
 
 either : (a : Bool) → cond a true true ≡ true
 either true = refl
 either false = refl
 
-type_to : (code : ℕ) → IsType code → is_type code ≡ true
+pub type_to : (code : ℕ) → IsType code → is_type code ≡ true
 type_to code h = elim h [
   | inl e ↦ ap is_type e
   | inr p ↦ rw (primitive_to code p) (either (nat_eq code 2))

@@ -114,7 +114,7 @@ tag_small (NoData id stack count code) fit = omega arith
 abbrev pub PartFits : ℕ → SubRecord → Type 0
 PartFits tag p = IsPart p × (part_tag p ≡ tag)
 
-abbrev some_kind : Kind → Option Kind
+abbrev pub some_kind : Kind → Option Kind
 some_kind k = Some k
 
 kind_agrees : (tag : ℕ) (k : Kind) (p : SubRecord) → kind_of tag ≡ Some k → PartFits tag p → part_kind p ≡ k
@@ -164,17 +164,17 @@ two_by false true z a b c d e f h = absurd cc
 two_by false false true a b c d e f h = refl
 two_by false false false a b c d e f h = let no = no_root is_with_two a b c d e f refl refl refl refl refl refl refl in let yes = ap is_with_two h in absurd cc
 
-bare_tag : (tag : ℕ) → kind_of tag ≡ Some kinds.Bare → is_one_of bare_tags tag ≡ true
+pub bare_tag : (tag : ℕ) → kind_of tag ≡ Some kinds.Bare → is_one_of bare_tags tag ≡ true
 bare_tag tag h = bare_by (is_one_of bare_tags tag) (is_one_of tags_with_one tag) (is_one_of tags_with_two tag) (nat_eq tag 0xfe) (nat_eq tag 0x20) (nat_eq tag 0x21) (nat_eq tag 0x22) (nat_eq tag 0x23) (nat_eq tag 0xc3) h
 
-tag_with_one : (tag : ℕ) → kind_of tag ≡ Some kinds.WithOne → is_one_of tags_with_one tag ≡ true
+pub tag_with_one : (tag : ℕ) → kind_of tag ≡ Some kinds.WithOne → is_one_of tags_with_one tag ≡ true
 tag_with_one tag h = one_by (is_one_of bare_tags tag) (is_one_of tags_with_one tag) (is_one_of tags_with_two tag) (nat_eq tag 0xfe) (nat_eq tag 0x20) (nat_eq tag 0x21) (nat_eq tag 0x22) (nat_eq tag 0x23) (nat_eq tag 0xc3) h
 
-tag_with_two : (tag : ℕ) → kind_of tag ≡ Some kinds.WithTwo → is_one_of tags_with_two tag ≡ true
+pub tag_with_two : (tag : ℕ) → kind_of tag ≡ Some kinds.WithTwo → is_one_of tags_with_two tag ≡ true
 tag_with_two tag h = two_by (is_one_of bare_tags tag) (is_one_of tags_with_one tag) (is_one_of tags_with_two tag) (nat_eq tag 0xfe) (nat_eq tag 0x20) (nat_eq tag 0x21) (nat_eq tag 0x22) (nat_eq tag 0x23) (nat_eq tag 0xc3) h
 
 -- the other kinds have one tag
-abbrev tag_of_kind : Kind → ℕ
+abbrev pub tag_of_kind : Kind → ℕ
 tag_of_kind kinds.Heap = 0xfe
 tag_of_kind kinds.Class = 0x20
 tag_of_kind kinds.Object = 0x21
@@ -183,7 +183,7 @@ tag_of_kind kinds.Numbers = 0x23
 tag_of_kind kinds.NoNumbers = 0xc3
 tag_of_kind _ = 0
 
-abbrev IsAlone : Option Kind → ℕ → Type 0
+abbrev pub IsAlone : Option Kind → ℕ → Type 0
 IsAlone (Some kinds.Bare) tag = Unit {0}
 IsAlone (Some kinds.WithOne) tag = Unit {0}
 IsAlone (Some kinds.WithTwo) tag = Unit {0}
@@ -203,7 +203,7 @@ alone_by tag false false false false false false false true f h i j k l m = l re
 alone_by tag false false false false false false false false true h i j k l m = m refl
 alone_by tag false false false false false false false false false h i j k l m = tt
 
-alone : (tag : ℕ) (o : Option Kind) → kind_of tag ≡ o → IsAlone o tag
+pub alone : (tag : ℕ) (o : Option Kind) → kind_of tag ≡ o → IsAlone o tag
 alone tag o h =
     let told : IsAlone (kind_of tag) tag =
     alone_by tag (is_one_of bare_tags tag) (is_one_of tags_with_one tag) (is_one_of tags_with_two tag) (nat_eq tag 0xfe) (nat_eq tag 0x20) (nat_eq tag 0x21) (nat_eq tag 0x22) (nat_eq tag 0x23) (nat_eq tag 0xc3)

@@ -28,10 +28,13 @@ fn behind_text(bytes: &[u8]) -> Option<&[u8]>
     ensures found { IfSome result (λ rest. BeginsFormat bytes.now rest.now) }
     ensures none { IfNone result ((rest : List ℕ) → BeginsFormat bytes.now rest → ⊥) }
 {
-    match bytes.strip_prefix(&MAGIC_3) {
-        Some(rest) => Some(rest),
-        None => bytes.strip_prefix(&MAGIC_2),
+    if let Some(rest) = bytes.strip_prefix(&MAGIC_3) {
+        return Some(rest);
     }
+    if let Some(rest) = bytes.strip_prefix(&MAGIC_2) {
+        return Some(rest);
+    }
+    None
 }
 
 /// The size of identifiers that a number of bytes tells. `None` exactly where it is neither 4 nor 8.

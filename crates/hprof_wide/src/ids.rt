@@ -28,6 +28,7 @@ impl IdSize {
     }
 }
 
+// The number of 8 bytes at the front.
 fn long(bytes: &[u8]) -> Result<(u64, &[u8]), Halt>
     ensures { Gives (λ x. (x.0, x.1.now)) result (number w64 bytes.now) }
 {

@@ -4,7 +4,9 @@
 
 mod class_parts;
 mod dump;
+mod examples;
 mod ids;
+mod laws;
 mod parts;
 mod records;
 mod wide_error;
@@ -13,6 +15,10 @@ mod wide_sub;
 mod wide_top;
 
 pub use dump::{WideDump, read_wide};
+pub use laws::{
+    dumps_are_wide, first_wide_faults, longest_wide_fronts, no_fault_in_wide_dumps, one_wide_list,
+    wide_dump_or_fault,
+};
 pub use wide_error::WideError;
 pub use wide_lists::{WideFieldNames, WideIds, WideStatics};
 pub use wide_sub::{WideSub, WideSubList};

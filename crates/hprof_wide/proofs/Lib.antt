@@ -1,0 +1,9 @@
+pub mod Values
+pub mod PartsByTag
+pub mod Segments
+pub mod Unique
+pub mod Bodies
+pub mod LawLemmas
+pub mod FirstFaults
+pub mod EveryText
+pub mod NarrowDumps
