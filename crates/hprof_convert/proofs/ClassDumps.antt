@@ -4,7 +4,6 @@ use Rattle.std.specs.List.{filter_map, flat_map}
 use Rattle.std.proofs.lemmas.List.{append-nil, take_more}
 use Rattle.std.proofs.lemmas.List.Concat.{flat_map-append}
 use Rattle.std.proofs.lemmas.List.Elements.{filter_map-append}
-use Rattle.dump_graph.specs.Classes.{Class}
 use Rattle.hprof_wide.specs.declared.wide_sub.WideSub.{WideSub}
 use Rattle.hprof_wide.specs.declared.wide_top.WideTop.{WideTop}
 use Rattle.hprof_convert.specs.Layouts.{wide_class_of, wide_classes, wide_parts_of}

@@ -1,5 +1,5 @@
 -- How many bytes lists of a part have.
-use Rattle.std.proofs.Common.{◌≡◌, ℕ, ◌+◌, ◌*◌, List, [], ◌∷◌, ◌++◌, length, refl, arith, length-append}
+use Rattle.std.proofs.Common.{◌≡◌, ℕ, ◌*◌, List, [], ◌∷◌, length, refl, arith}
 use Rattle.std.specs.List.{flat_map}
 use Rattle.hprof_records.specs.Parts.{word, field_name_bytes}
 

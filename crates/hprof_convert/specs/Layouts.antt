@@ -1,5 +1,5 @@
 -- The classes of a wide dump, and the layouts of instances.
-use Rattle.std.specs.Prelude.{ℕ, nat_eq, List, [], map, length, sum_by, Option, None, Some, option_and_then, if◌then◌else◌}
+use Rattle.std.specs.Prelude.{ℕ, nat_eq, List, [], map, sum_by, Option, None, Some, option_and_then, if◌then◌else◌}
 use Rattle.std.specs.List.{filter_map, flat_map}
 use Rattle.hprof_wide.specs.declared.wide_sub.WideSub.{WideSub}
 use Rattle.hprof_wide.specs.declared.wide_sub.WideSub.TheVariants.{ClassDump}

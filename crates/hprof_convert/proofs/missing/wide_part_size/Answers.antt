@@ -4,7 +4,7 @@ use Rattle.std.specs.List.{flat_map}
 use Rattle.hprof_records.specs.Fields.{field}
 use Rattle.hprof_records.specs.Parts.{constant_bytes}
 use Rattle.hprof_wide.specs.declared.wide_sub.WideSub.{WideSub}
-use Rattle.hprof_wide.specs.Parts.{further_fields, wide_field_name_bytes, wide_part_bytes, wide_static_bytes}
+use Rattle.hprof_wide.specs.Parts.{wide_field_name_bytes, wide_part_bytes, wide_static_bytes}
 use Rattle.hprof_convert.proofs.MissingLemmas.{size-array, size-class, size-heap, size-instance, size-no_data, size-primitive, size-root}
 use Rattle.hprof_convert.proofs.missing.wide_part_size.Goals as goal
 

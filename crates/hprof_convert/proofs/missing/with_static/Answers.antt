@@ -1,4 +1,4 @@
-use Rattle.std.proofs.Common.{◌≡◌, ℕ, ◌+◌, length, ap, arith, subst}
+use Rattle.std.proofs.Common.{◌≡◌, ◌+◌, length, ap, arith, subst}
 use Rattle.std.specs.Prelude.{IfSome}
 use Rattle.hprof_wide.specs.Parts.{wide_static_bytes}
 use Rattle.hprof_convert.proofs.MissingLemmas.{length-static}

@@ -1,4 +1,4 @@
-use Rattle.std.proofs.Common.{◌≡◌, ℕ, ◌+◌, length, arith, subst}
+use Rattle.std.proofs.Common.{◌≡◌, ◌+◌, length, arith, subst}
 use Rattle.std.specs.Prelude.{IfSome}
 use Rattle.std.specs.List.{flat_map}
 use Rattle.hprof_records.specs.Parts.{word}

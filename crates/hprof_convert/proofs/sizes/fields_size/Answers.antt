@@ -1,4 +1,4 @@
-use Rattle.std.proofs.Common.{◌≡◌, ℕ, sym, subst}
+use Rattle.std.proofs.Common.{◌≡◌, sym, subst}
 use Rattle.std.specs.Prelude.{IfSome}
 use Rattle.hprof_convert.proofs.SizeLemmas.{length-fields}
 use Rattle.hprof_convert.proofs.sizes.fields_size.Goals as goal
