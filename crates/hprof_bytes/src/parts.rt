@@ -69,10 +69,7 @@ pub(crate) fn put_words<W: Sink>(sink: &mut W, ids: &[u32]) -> Result<(), Failed
 }
 
 /// How many constants there are, and these.
-fn put_counted_constants<W: Sink>(
-    sink: &mut W,
-    list: &[(u16, u8, Bytes)],
-) -> Result<(), Failed>
+fn put_counted_constants<W: Sink>(sink: &mut W, list: &[(u16, u8, Bytes)]) -> Result<(), Failed>
     requires { IsHalf (length list.now) }
     ensures { Puts W.gained W.fault_count sink.old (field 2 (length list.now) ++ flat_map constant_bytes list.now) sink.new result }
 {

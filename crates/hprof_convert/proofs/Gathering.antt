@@ -30,12 +30,14 @@ pub gather-on : (known : List Class) (w dumps fuel n size left after fuel' : ℕ
 gather-on known w dumps fuel n size left after fuel' at more all codes own codes' (rest, (is, split, sizes)) at_n few own_is next fits also less =
     let here : IsLeft known (Some n) fuel rest = subst (λ o. IsLeft known o fuel rest) at_n is in
     let onward = left-next known n fuel dumps rest here few in
-    let sums = sum_by-append (wide_value_bytes w) codes own in
-    (onward.0, (
-      subst (λ k. IsLeft known more k onward.0) (sym less) (subst (λ o. IsLeft known o (fuel - 1) onward.0) (sym next) onward.1.1),
-      split ∙ (ap (λ (l : List ℕ). codes ++ l) (onward.1.0 ∙ ap (λ (l : List ℕ). l ++ onward.0) (sym own_is)) ∙ (sym (append_assoc codes own onward.0) ∙ ap (λ (l : List ℕ). l ++ onward.0) (sym also))),
-      ap (λ (l : List ℕ). after + sum_by (wide_value_bytes w) l) also ∙ omega (arith, sums, fits, sizes)
-    ))
+    let sums = sum_by-append (wide_value_bytes w) codes own in (
+      onward.0,
+      (
+        subst (λ k. IsLeft known more k onward.0) (sym less) (subst (λ o. IsLeft known o (fuel - 1) onward.0) (sym next) onward.1.1),
+        split ∙ (ap (λ (l : List ℕ). codes ++ l) (onward.1.0 ∙ ap (λ (l : List ℕ). l ++ onward.0) (sym own_is)) ∙ (sym (append_assoc codes own onward.0) ∙ ap (λ (l : List ℕ). l ++ onward.0) (sym also))),
+        ap (λ (l : List ℕ). after + sum_by (wide_value_bytes w) l) also ∙ omega (arith, sums, fits, sizes),
+      ),
+    )
 
 -- there are too few bytes for the fields of a class
 pub gather-short : (known : List Class) (w dumps fuel n size left : ℕ) (at : Option ℕ) (all codes own : List ℕ)
@@ -47,7 +49,7 @@ gather-short known w dumps fuel n size left at all codes own (rest, (is, split, 
     let f = wide_value_bytes w in
     let whole : all ≡ codes ++ (own ++ onward.0) = split ∙ ap (λ (l : List ℕ). codes ++ l) (onward.1.0 ∙ ap (λ (l : List ℕ). l ++ onward.0) (sym own_is)) in
     let total : sum_by f all ≡ sum_by f codes + (sum_by f own + sum_by f onward.0) =
-        ap (sum_by f) whole ∙ (sum_by-append f codes (own ++ onward.0) ∙ ap (λ k. sum_by f codes + k) (sum_by-append f own onward.0)) in
+    ap (sum_by f) whole ∙ (sum_by-append f codes (own ++ onward.0) ∙ ap (λ k. sum_by f codes + k) (sum_by-append f own onward.0)) in
     not-size w size all (omega (arith, total, sizes, short))
   where
     not-size : (w size : ℕ) (all : List ℕ) → size < sum_by (wide_value_bytes w) all → None ≡ if_of_size w size all

@@ -5,3 +5,4 @@ pub mod ClassDumps
 pub mod SizeLemmas
 pub mod MissingLemmas
 pub mod Renaming
+pub mod Apart

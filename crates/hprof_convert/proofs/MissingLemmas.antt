@@ -128,8 +128,15 @@ size-text w time id bytes =
 
 pub size-load : (w time serial class stack name : ℕ) (rest : List ℕ) → 17 + 2 * w + length rest ≡ length (wide_record_bytes w (record_of.LoadClass time serial class stack name rest))
 size-load w time serial class stack name rest =
-    omega (arith, ap length (append-nil (wide_body_of w (record_of.LoadClass time serial class stack name rest))),
-    length-append (field w class) (word stack ++ (field w name ++ (rest ++ []))), length-append (field w name) (rest ++ []), length-bytes_high_first w class, length-bytes_high_first w name, ap length (append-nil rest))
+    omega (
+      arith,
+      ap length (append-nil (wide_body_of w (record_of.LoadClass time serial class stack name rest))),
+      length-append (field w class) (word stack ++ (field w name ++ (rest ++ []))),
+      length-append (field w name) (rest ++ []),
+      length-bytes_high_first w class,
+      length-bytes_high_first w name,
+      ap length (append-nil rest),
+    )
 
 pub size-trace : (w time serial thread : ℕ) (frames rest : List ℕ) → 21 + length (flat_map (field w) frames) + length rest ≡ length (wide_record_bytes w (record_of.Trace time serial thread frames rest))
 size-trace w time serial thread frames rest =

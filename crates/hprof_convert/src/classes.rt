@@ -64,11 +64,7 @@ fn class_of(alloc: Global, part: &WideSub) -> Result<Option<WideClass>, AllocErr
 }
 
 /// Puts the class that a part tells behind others.
-fn add_class(
-    alloc: Global,
-    known: &mut Vec<WideClass>,
-    part: &WideSub,
-) -> Result<(), AllocError>
+fn add_class(alloc: Global, known: &mut Vec<WideClass>, part: &WideSub) -> Result<(), AllocError>
     ensures { OnOk result (known.new.items ≡ known.old.items ++ option_to_list (wide_class_of part.now)) }
 {
     if let Some(class) = class_of(alloc, part)? {
@@ -160,11 +156,7 @@ fn step_from(places: &Places, known: &[WideClass], class: &WideClass) -> Climb
 }
 
 /// The step up from each class.
-fn all_steps(
-    alloc: Global,
-    places: &Places,
-    known: &[WideClass],
-) -> Result<Vec<Climb>, AllocError>
+fn all_steps(alloc: Global, places: &Places, known: &[WideClass]) -> Result<Vec<Climb>, AllocError>
     requires { places.now ≡ map (λ c. c.id) known.now }
     ensures { IfOk result (λ steps. steps.items ≡ map (step_from known.now) known.now) }
 {

@@ -322,7 +322,10 @@ fn converted_record(
             rest: Bytes::of(alloc, rest.as_slice())?,
         })),
         WideTop::Segment {
-            time, tag, parts, ..
+            time,
+            tag,
+            parts,
+            ..
         } => {
             let parts = converted_parts(alloc, names, width, classes, parts.as_slice())?;
             let length = parts_size(parts.as_slice())?;

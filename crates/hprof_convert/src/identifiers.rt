@@ -37,22 +37,14 @@ fn name_constants(
     Ok(())
 }
 
-fn name_static(
-    names: &mut Places,
-    width: u32,
-    one: &(u64, u8, Bytes),
-) -> Result<(), AllocError>
+fn name_static(names: &mut Places, width: u32, one: &(u64, u8, Bytes)) -> Result<(), AllocError>
     ensures { OnOk result (names.new ≡ with_names names.old (static_ids width one.now)) }
 {
     names.add_name(one.0)?;
     name_value(names, width, one.1, one.2.as_slice())
 }
 
-fn name_statics(
-    names: &mut Places,
-    width: u32,
-    list: &[(u64, u8, Bytes)],
-) -> Result<(), AllocError>
+fn name_statics(names: &mut Places, width: u32, list: &[(u64, u8, Bytes)]) -> Result<(), AllocError>
     ensures { OnOk result (names.new ≡ with_names names.old (flat_map (static_ids width) list.now)) }
 {
     for one in list {
@@ -152,13 +144,19 @@ fn name_part(
             )
         }
         WideSub::Instance {
-            id, class, bytes, ..
+            id,
+            class,
+            bytes,
+            ..
         } => {
             name_ids(names, &[*id, *class])?;
             name_instance(alloc, names, width, classes, *class, bytes.as_slice())
         }
         WideSub::ObjectArray {
-            id, class, items, ..
+            id,
+            class,
+            items,
+            ..
         } => {
             name_ids(names, &[*id, *class])?;
             name_ids(names, items.as_slice())

@@ -7,6 +7,7 @@ mod conversion;
 mod convert_error;
 mod converted;
 mod identifiers;
+mod laws;
 mod missing;
 mod places;
 mod sizes;
@@ -14,3 +15,4 @@ mod values;
 
 pub use conversion::convert;
 pub use convert_error::ConvertError;
+pub use laws::renamed_apart;

@@ -81,13 +81,7 @@ fn wide_further_size(width: u32, tag: u8, first: Option<u64>, second: Option<u64
 {
     match (first, second) {
         (None, None) => 0,
-        (Some(_), None) => {
-            if tag == JNI_GLOBAL {
-                width
-            } else {
-                4
-            }
-        }
+        (Some(_), None) => { if tag == JNI_GLOBAL { width } else { 4 } }
         (None, Some(_)) => 4,
         (Some(_), Some(_)) => 8,
     }
@@ -113,7 +107,10 @@ fn wide_part_size(width: u32, part: &WideSub) -> Option<u32>
 {
     match part {
         WideSub::Root {
-            tag, first, second, ..
+            tag,
+            first,
+            second,
+            ..
         } => more(
             1,
             width,
