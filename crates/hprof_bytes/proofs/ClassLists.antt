@@ -1,6 +1,6 @@
 -- A class dump's head and lists.
-use Rattle.std.proofs.Common.{◌≡◌, ℕ, List, [], ◌∷◌, ◌++◌, length, sym, ap, ◌∙◌}
-use Rattle.std.specs.List.{concat, flat_map}
+use Rattle.std.proofs.Common.{◌≡◌, ℕ, List, ◌++◌, length, sym, ap}
+use Rattle.std.specs.List.{flat_map}
 use Rattle.std.proofs.lemmas.List.{append-nil}
 use Rattle.hprof_records.specs.declared.sub_record.SubRecord.TheVariants.{ClassDump}
 use Rattle.hprof_records.specs.Fields.{field}
