@@ -1,7 +1,6 @@
 -- The gathering of an instance's types, class by class upwards.
-use Rattle.std.proofs.Common.{◌≡◌, ℕ, ◌+◌, ◌-◌, ◌<◌, ◌≤◌, true, false, cond, nat_eq, List, [], ◌++◌, length, Option, None, Some, refl, ap, sym, ◌∙◌, arith, subst, append_assoc}
+use Rattle.std.proofs.Common.{◌≡◌, ℕ, ◌+◌, ◌-◌, ◌<◌, ◌≤◌, false, cond, nat_eq, List, [], ◌++◌, length, Option, None, Some, refl, ap, sym, ◌∙◌, arith, subst, append_assoc}
 use Rattle.std.specs.Prelude.{sum_by}
-use Rattle.std.proofs.lemmas.List.{append-nil}
 use Rattle.std.proofs.lemmas.List.Sums.{sum_by-append}
 use Rattle.std.proofs.lemmas.Grind.{common_steps}
 use Rattle.hprof_wide.specs.Parts.{wide_value_bytes}
@@ -9,7 +8,7 @@ use Rattle.dump_graph.specs.Classes.{Class}
 use Rattle.dump_graph.specs.Climbing.{climb, gathered, own_codes}
 use Rattle.dump_graph.specs.Reading.{IsLeft}
 use Rattle.dump_graph.specs.declared.climb.Up.TheVariants.{Top}
-use Rattle.dump_graph.proofs.ReadAll.{left-next, left-none}
+use Rattle.dump_graph.proofs.ReadAll.{left-next}
 use Rattle.hprof_convert.specs.Layouts.{if_of_size}
 
 -- these of all types were gathered, and so many bytes are left for the others
@@ -54,29 +53,3 @@ gather-short known w dumps fuel n size left at all codes own (rest, (is, split, 
   where
     not-size : (w size : ℕ) (all : List ℕ) → size < sum_by (wide_value_bytes w) all → None ≡ if_of_size w size all
     not-size w size all more = let no : nat_eq (sum_by (wide_value_bytes w) all) size ≡ false = grind (arith, common_steps, more) in sym (ap (λ b. cond b (Some all) None) no)
-
--- all types were gathered, where no class is left or no step
-pub gather-ends : (known : List Class) (w size left fuel : ℕ) (at : Option ℕ) (all codes : List ℕ) → IsGathered known w all size at fuel codes left → fuel ≡ 0
-    → (all ≡ codes) × (left + sum_by (wide_value_bytes w) all ≡ size)
-gather-ends known w size left fuel at all codes (rest, (is, split, sizes)) none =
-    let nothing : rest ≡ [] = left-none known at rest (subst (λ k. IsLeft known at k rest) none is) in
-    let same : all ≡ codes = split ∙ (ap (λ (l : List ℕ). codes ++ l) nothing ∙ append-nil codes) in
-    (same, ap (λ (l : List ℕ). left + sum_by (wide_value_bytes w) l) same ∙ sizes)
-
-pub gather-stops : (known : List Class) (w size left fuel : ℕ) (at : Option ℕ) (all codes : List ℕ) → IsGathered known w all size at fuel codes left → at ≡ None
-    → (all ≡ codes) × (left + sum_by (wide_value_bytes w) all ≡ size)
-gather-stops known w size left fuel at all codes (rest, (is, split, sizes)) none =
-    let nothing : rest ≡ [] = subst (λ o. IsLeft known o fuel rest) none is in
-    let same : all ≡ codes = split ∙ (ap (λ (l : List ℕ). codes ++ l) nothing ∙ append-nil codes) in
-    (same, ap (λ (l : List ℕ). left + sum_by (wide_value_bytes w) l) same ∙ sizes)
-
--- then they have the size or not
-pub gathered-fits : (w size left : ℕ) (all codes : List ℕ) → (all ≡ codes) × (left + sum_by (wide_value_bytes w) all ≡ size) → left ≡ 0 → Some codes ≡ if_of_size w size all
-gathered-fits w size left all codes (same, sizes) none =
-    let yes : nat_eq (sum_by (wide_value_bytes w) all) size ≡ true = grind (arith, common_steps, sizes, none) in
-    ap Some (sym same) ∙ sym (ap (λ b. cond b (Some all) None) yes)
-
-pub gathered-unfit : (w size left : ℕ) (all codes : List ℕ) → (all ≡ codes) × (left + sum_by (wide_value_bytes w) all ≡ size) → 0 < left → None ≡ if_of_size w size all
-gathered-unfit w size left all codes (same, sizes) some =
-    let no : nat_eq (sum_by (wide_value_bytes w) all) size ≡ false = grind (arith, common_steps, sizes, some) in
-    sym (ap (λ b. cond b (Some all) None) no)
