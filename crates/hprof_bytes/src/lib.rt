@@ -1,0 +1,8 @@
+//! Dumps as bytes, put into a sink: the header, then the fields of the records in order.
+#![tactic(auto)]
+
+mod fields;
+mod parts;
+mod records;
+
+pub use records::write_bytes;

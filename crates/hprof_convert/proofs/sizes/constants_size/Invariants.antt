@@ -1,0 +1,7 @@
+use Rattle.std.proofs.Common.{◌≡◌, length, take}
+use Rattle.std.specs.List.{flat_map}
+use Rattle.hprof_records.specs.Parts.{constant_bytes}
+use Rattle.hprof_convert.proofs.sizes.constants_size.Given as goal
+
+abbrev pub invariant-loop-one : goal.invariant-loop-one
+invariant-loop-one l = l.size ≡ length (flat_map constant_bytes (take l.one-index l.list))
