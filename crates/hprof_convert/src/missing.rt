@@ -6,7 +6,6 @@ ghost use Rattle.hprof_records.specs.Parts.{constant_bytes};
 ghost use Rattle.hprof_wide.specs.Parts.{further_fields, wide_part_bytes, wide_static_bytes, wide_field_name_bytes};
 ghost use Rattle.hprof_wide.specs.Records.{wide_record_bytes};
 ghost use Rattle.hprof_wide.specs.Dump.{IsWideRecord, AreWideRecords};
-ghost use Rattle.hprof_wide.specs.Formed.{HasWideFurther, IsWidePart};
 ghost use Rattle.hprof_convert.specs.Missing.{lacks_layout, missing_in_parts, missing_from};
 
 use crate::classes::{WideClasses, parts_of};
