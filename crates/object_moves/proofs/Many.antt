@@ -164,8 +164,7 @@ module _ (cs : List Class) (m : Memory) (t : ℕ) (raws : Raws) (done : ℕ → 
   slot-there n test i below h =
       let it = ok.each i below in
       let within = place-within cs (raws.raw it.object).shape Ref it.place.offset it.place (slot-place cs raws _ _ it) in
-      let stands = h.stands it.object it.has in
-      (
+      let stands = h.stands it.object it.has in (
         omega (arith, it.at_is, within.1, stands.aligned),
         ap (λ a. is_mapped n t (page_of a)) it.at_is ∙ stands.space.mapped it.place.offset (omega (arith, within.2)),
       )

@@ -28,6 +28,7 @@ pub fn copy_all(
     ensures moves { (raws : Raws) → CanCopyAll classes.now frames.old t.0 (lists_of regions.old) raws young.old → AreMoved raws (moved raws young.old young.new (length young.old)) young.old young.new (length young.old) }
     ensures packed { (raws : Raws) → CanCopyAll classes.now frames.old t.0 (lists_of regions.old) raws young.old → PacksAt regions.new.in_use (sizes_at classes.now raws young.old) young.new }
     ensures regions { (regions.new.from ≡ regions.old.from) × (regions.new.count ≡ regions.old.count) }
+    ensures objects { (regions.new.objects ≡ regions.old.objects + length young.old) × (regions.new.from_objects ≡ regions.old.from_objects) }
     ensures outside { KeepsOutside frames.old frames.new t.0 }
     ensures only { OnlyTable frames.old frames.new t.0 }
 {
@@ -49,6 +50,7 @@ fn copy_one(
     ensures held { (raws : Raws) → CanCopy classes.now frames.old t.0 (lists_of regions.old) raws at.0 → HoldsRegions classes.now frames.new t.0 (lists_of regions.new) (evacuated raws at.0 result.0) }
     ensures fresh { (raws : Raws) → CanCopy classes.now frames.old t.0 (lists_of regions.old) raws at.0 → raws.has result.0 ≡ false }
     ensures places { (raws : Raws) → CanCopy classes.now frames.old t.0 (lists_of regions.old) raws at.0 → Places (lists_of regions.old) (lists_of regions.new) result.0 (raw_size classes.now raws at.0) }
+    ensures objects { (regions.new.objects ≡ regions.old.objects + 1) × (regions.new.from_objects ≡ regions.old.from_objects) }
     ensures spare { (raws : Raws) → CanCopy classes.now frames.old t.0 (lists_of regions.old) raws at.0
         → frames.old.spare ≤ frames.new.spare + further_pages regions.old.in_use (raw_size classes.now raws at.0) }
     ensures outside { KeepsOutside frames.old frames.new t.0 }

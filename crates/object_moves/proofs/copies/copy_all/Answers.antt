@@ -24,6 +24,8 @@ loop-i-preserved c =
           let is = c.copy_one-to.ensures in
           copying-next _ _ _ _ raws c.args.young.now ok _ _ _ c.loop-i.i below was _ _ _ (is.held _ can) (is.fresh _ can) (is.places _ can) (is.spare _ can) (omega (arith, below, c.loop-i.invariant.len));
       len = length-set c.loop-i.young c.loop-i.i _ ∙ c.loop-i.invariant.len;
+      objects = omega (arith, c.copy_one-to.ensures.objects.0, c.loop-i.invariant.objects);
+      from_objects = c.copy_one-to.ensures.objects.1 ∙ c.loop-i.invariant.from_objects;
       outside = outside-both _ _ _ _ c.loop-i.invariant.outside c.copy_one-to.ensures.outside;
       only = only-trans _ _ _ _ c.loop-i.invariant.only c.copy_one-to.ensures.only;
     }
@@ -43,3 +45,6 @@ returns-clause-packed c raws ok =
     let done : c.loop-i.i ≡ length c.args.young.now = omega (arith, c.loop-i.invariant.len) in
     copying-all _ _ _ _ raws c.args.young.now ok _ _ _ c.loop-i.invariant.len
     (subst (λ (k : ℕ). Copying c.args.classes.now c.args.frames.now c.args.t.0 (lists_of c.args.regions.now) raws c.args.young.now c.loop-i.frames (lists_of c.loop-i.regions) c.loop-i.young k) done (c.loop-i.invariant.copying raws ok))
+
+pub returns-clause-objects : goal.returns-clause-objects
+returns-clause-objects c = (omega (arith, c.loop-i.invariant.objects, c.loop-i.invariant.len), c.loop-i.invariant.from_objects)

@@ -1,4 +1,4 @@
-use Rattle.std.proofs.Common.{◌≡◌, length}
+use Rattle.std.proofs.Common.{◌≡◌, ◌+◌, length}
 use Rattle.cow_pages.specs.Only.{OnlyTable}
 use Rattle.raw_objects.specs.Raws.{Raws}
 use Rattle.region_space.specs.Space.{lists_of}
@@ -11,6 +11,8 @@ abbrev pub invariant-loop-i : goal.invariant-loop-i
 invariant-loop-i l = record {
   copying : (raws : Raws) → CanCopyAll l.classes l.fn.frames l.t.0 (lists_of l.fn.regions) raws l.fn.young → Copying l.classes l.fn.frames l.t.0 (lists_of l.fn.regions) raws l.fn.young l.frames (lists_of l.regions) l.young l.i;
   len : length l.young ≡ length l.fn.young;
+  objects : l.regions.objects ≡ l.fn.regions.objects + l.i;
+  from_objects : l.regions.from_objects ≡ l.fn.regions.from_objects;
   outside : KeepsOutside l.fn.frames l.frames l.t.0;
   only : OnlyTable l.fn.frames l.frames l.t.0;
 }
