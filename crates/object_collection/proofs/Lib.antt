@@ -3,3 +3,4 @@ pub mod Facts
 pub mod Turnings
 pub mod Nulled
 pub mod Marked
+pub mod Dropping
