@@ -1,0 +1,1 @@
+-- The live objects of the regions, packed anew, need no more regions than are in use.
