@@ -9,6 +9,10 @@ use Rattle.std.proofs.lemmas.Map.Keys.{IsDistinct-push}
 use Rattle.std.proofs.lemmas.Map.Views.{Contains-from_any}
 use Rattle.object_collection.specs.Weaks.{Adds}
 
+pub none-twice : IsDistinct nat_eq []
+unfolding IsDistinct
+none-twice = tt
+
 -- nothing is added
 pub adds-none : (these : ℕ → Type 0) (xs : List ℕ) → ((b : ℕ) → these b → ⊥) → Adds these xs xs
 adds-none these xs none = record {
