@@ -1,3 +1,4 @@
 pub mod Growing
 pub mod PageLemmas
 pub mod Room
+pub mod WeakLemmas

@@ -1,5 +1,5 @@
 -- The live objects of the regions are some of all of these, in the same order: packed anew they need no more regions.
-use Rattle.std.proofs.Common.{◌≡◌, ◌≢◌, ◌∙◌, ℕ, ◌+◌, ◌-◌, ◌*◌, ◌/◌, ◌<◌, ◌≤◌, Bool, true, false, List, [], ◌∷◌, length, map, nat_eq, All, refl, sym, ap, subst, inl, inr, arith}
+use Rattle.std.proofs.Common.{◌≡◌, ◌≢◌, ◌∙◌, ℕ, ◌+◌, ◌-◌, ◌*◌, ◌/◌, ◌<◌, ◌≤◌, Bool, true, false, List, [], ◌∷◌, get_or, length, map, nat_eq, All, refl, sym, ap, subst, inl, inr, arith}
 use Rattle.std.specs.List.{Contains}
 use Rattle.std.proofs.lemmas.Bool.{and_parts, cases_eq, eqb-false, eqb-true}
 use Rattle.std.proofs.lemmas.List.{length-map}
@@ -107,6 +107,9 @@ fewer rank size (a ∷ all) (y ∷ ys) low other p q ra rs sub le = elim (cases_
 
 -- THE REACHED ONES
 
+size-some : (cs : List Class) (raws : Raws) (a : ℕ) → 0 < raw_size cs raws a
+size-some cs raws a = let b = size-bounds cs (raws.raw a).shape in omega (arith, b.0, b.1, b.2)
+
 -- what is reached is an object that isn't immune
 pub reached-node : (cs : List Class) (rows : List LargeRow) (raws : Raws) (starts : List ℕ) (b : ℕ) (before : List ℕ) → Path cs rows raws starts b before → is_node rows raws b ≡ true
 reached-node cs rows raws starts b [] path = path.1
@@ -140,7 +143,7 @@ module _ (h : HeapState) (m : Memory) (t : ℕ) (raws : Raws) (young : List Addr
   all = k.can.young.0
 
   some : (ats : List Addr) → All (λ s. 0 < s) (sizes_at h.classes raws ats)
-  some ats = All-map (λ s. 0 < s) (λ (a : Addr). size a.0) ats (λ i d below. let b = size-bounds h.classes (raws.raw _).shape in omega (arith, b.0, b.1, b.2))
+  some ats = All-map (λ s. 0 < s) (λ (a : Addr). size a.0) ats (λ i d below. size-some h.classes raws (get_or ats i d).0)
 
   pub live-fewer : AreFewer size (addresses all) (addresses young) 0 0
   live-fewer =
