@@ -1,9 +1,9 @@
 -- The live objects of the regions are some of all of these, in the same order: packed anew they need no more regions.
-use Rattle.std.proofs.Common.{◌≡◌, ◌≢◌, ◌∙◌, ℕ, ◌+◌, ◌-◌, ◌*◌, ◌/◌, ◌<◌, ◌≤◌, Bool, true, false, List, [], ◌∷◌, get_or, length, map, nat_eq, All, refl, sym, ap, subst, inl, inr, arith}
+use Rattle.std.proofs.Common.{◌≡◌, ◌≢◌, ◌∙◌, ℕ, zero, suc, ◌+◌, ◌-◌, ◌*◌, ◌/◌, ◌<◌, ◌≤◌, Bool, true, false, List, [], ◌∷◌, get_or, length, map, nat_eq, All, refl, sym, ap, subst, inl, inr, arith}
 use Rattle.std.specs.List.{Contains}
 use Rattle.std.proofs.lemmas.Bool.{and_parts, cases_eq, eqb-false, eqb-true}
-use Rattle.std.proofs.lemmas.List.{length-map}
-use Rattle.std.proofs.lemmas.List.Elements.{All-cons, All-head, All-map, All-nil, All-tail}
+use Rattle.std.proofs.lemmas.List.{get_or-map, length-map}
+use Rattle.std.proofs.lemmas.List.Elements.{All-cons, All-head, All-map, All-nil, All-tail, Contains-get_or}
 use Rattle.std.proofs.lemmas.Simd.{map-map}
 use Rattle.model_numbers.specs.Numbers.{region_bytes}
 use Rattle.class_layout.specs.ClassList.{Class}
@@ -25,7 +25,7 @@ use Rattle.live_objects.specs.Marks.{place_of}
 use Rattle.live_objects.specs.Reach.{is_mortal, is_node, Path}
 use Rattle.live_objects.proofs.OrderLemmas.{address-is, regions, regions-within}
 use Rattle.live_objects.proofs.YoungLemmas.{cons-cases, distinct-index, in-first, in-rest, map-in, rising-above}
-use Rattle.object_moves.specs.Copies.{sizes_at}
+use Rattle.object_moves.specs.Copies.{at_of, sizes_at}
 use Rattle.object_collection.specs.Collects.{AreYoung, HeapState, IsReached}
 use Rattle.object_collection.specs.Listed.{KnowsLive}
 
@@ -135,6 +135,17 @@ rank-back h space p below =
     (address-is (regions h.regions.in_use) p (regions-within (lists_of h.regions) space) (λ i under. distinct-index (regions h.regions.in_use) i (in_use-apart (lists_of h.regions) space) under)
     (omega (arith, below, length-map h.regions.in_use (λ (row : Row). row.region)))).back
 
+at-place : (young : List Addr) (in_use : List Row) (ps : List ℕ) → addresses young ≡ map (address_in in_use) ps → (i : ℕ) → i < length young → i < length ps → at_of young i ≡ address_in in_use (get_or ps i 0)
+at-place young in_use ps stand i below under =
+    let none : Addr = record { 0 = 0 } in
+    sym (get_or-map (λ (a : Addr). a.0) young i none 0 below) ∙ ap (λ ns. get_or ns i 0) stand ∙ get_or-map (address_in in_use) ps i 0 0 under
+
+rising-apart : (low : ℕ) (ps : List ℕ) (i j : ℕ) → AreRising low ps → i < j → j < length ps → get_or ps i 0 < get_or ps j 0
+rising-apart low [] i j rising before below = absurd (omega (arith, below))
+rising-apart low (p ∷ ps) i zero rising before below = absurd (omega (arith, before))
+rising-apart low (p ∷ ps) zero (suc j) rising before below = let it = rising-above (p + 1) ps (get_or ps j 0) rising.1 (Contains-get_or ps j 0 (omega (arith, below))) in omega (arith, it)
+rising-apart low (p ∷ ps) (suc i) (suc j) rising before below = rising-apart (p + 1) ps i j rising.1 (omega (arith, before)) (omega (arith, below))
+
 module _ (h : HeapState) (m : Memory) (t : ℕ) (raws : Raws) (young : List Addr) (large : Bits) (k : KnowsLive h m t raws young large) where
   abbrev size : ℕ → ℕ
   size a = raw_size h.classes raws a
@@ -172,3 +183,18 @@ module _ (h : HeapState) (m : Memory) (t : ℕ) (raws : Raws) (young : List Addr
   few =
       let are : AreYoung h raws all = k.can.young.1 in
       omega (arith, live-fewer.count, are.count, length-map young (λ (a : Addr). a.0), length-map all (λ (a : Addr). a.0))
+
+  -- the live ones stand apart
+  pub live-once : (i j : ℕ) → i < j → j < length young → at_of young i ≢ at_of young j
+  live-once i j low below same =
+      let in_use : List Row = h.regions.in_use in
+      let ps : List ℕ = k.young_are.places in
+      let n = ap length k.young_are.stand in
+      let under : j < length ps = omega (arith, below, n, length-map young (λ (a : Addr). a.0), length-map ps (address_in in_use)) in
+      let before : i < length ps = omega (arith, low, under) in
+      let here = at-place young in_use ps k.young_are.stand i (omega (arith, low, below)) before in
+      let there = at-place young in_use ps k.young_are.stand j below under in
+      let back = rank-back h k.can.held.space in
+      let p : get_or ps i 0 ≡ get_or ps j 0 =
+      sym (back (get_or ps i 0) (k.young_are.within i 0 before)) ∙ ap (rank_in in_use) (sym here ∙ same ∙ there) ∙ back (get_or ps j 0) (k.young_are.within j 0 under) in
+      omega (arith, p, rising-apart 0 ps i j k.young_are.rising low under)

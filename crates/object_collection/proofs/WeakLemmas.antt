@@ -1,5 +1,5 @@
 -- Weak references that are listed one after the other.
-use Rattle.std.proofs.Common.{◌≡◌, ◌≢◌, ◌∙◌, ℕ, ◌+◌, ◌-◌, ◌^◌, ◌<◌, ◌≤◌, Bool, true, false, List, [], ◌∷◌, ◌++◌, get_or, length, map, nat_eq, Option, Some, None, refl, sym, ap, subst, inl, inr, arith}
+use Rattle.std.proofs.Common.{◌≡◌, ◌≢◌, ◌∙◌, ℕ, zero, suc, ◌+◌, ◌-◌, ◌^◌, ◌<◌, ◌≤◌, Bool, true, false, List, [], ◌∷◌, ◌++◌, get_or, length, map, nat_eq, Option, Some, None, refl, sym, ap, subst, inl, inr, arith}
 use Rattle.std.specs.Prelude.{◌⊎◌, ◌&&◌, nat_lt, option_map}
 use Rattle.std.specs.List.{Contains, IsDistinct}
 use Rattle.std.proofs.lemmas.Bool.{cases_eq, cases_lt, cases_order, eqb-false, false≢true}
@@ -95,6 +95,36 @@ module _ (cs : List Class) (shape : Shape) (at : ℕ) where
         record { index = found.0; before = omega (arith, found.1, past); place = it.place; is = found.2; weak_is = it.weak_is; at_is = it.at_is })
       adds
 
+-- what a class tells of a reference
+pub record FoundPlace (cs : List Class) (shape : Shape) (k offset : ℕ) (weak : Bool) : Type 0 where
+  pub place : FieldAt
+  pub is : reference_place cs shape k ≡ Some place
+  pub offset_is : offset ≡ place.offset
+  pub weak_is : weak ≡ place.weak
+
+abbrev pub told : FieldAt → ℕ × Bool
+told p = (p.offset, p.weak)
+
+pub place-found : (cs : List Class) (shape : Shape) (k : ℕ) (x : ℕ × Bool) → Some x ≡ option_map told (reference_place cs shape k) → FoundPlace cs shape k x.0 x.1
+place-found cs shape k x found = by (reference_place cs shape k) refl found
+  where
+    by : (o : Option FieldAt) → reference_place cs shape k ≡ o → Some x ≡ option_map told o → FoundPlace cs shape k x.0 x.1
+    by None is e = absurd (none-some x (sym e))
+    by (Some p) is e =
+        let same : x ≡ told p = same_Some x (told p) e in
+        record { place = p; is = is; offset_is = ap (λ (y : ℕ × Bool). y.0) same; weak_is = ap (λ (y : ℕ × Bool). y.1) same }
+
+pub no-place : (found : Option (ℕ × Bool)) (place : Option FieldAt) → ((x : ℕ × Bool) → found ≡ Some x → ⊥) → found ≡ option_map told place → place ≡ None
+no-place found None none e = refl
+no-place found (Some p) none e = absurd (none (told p) e)
+
+-- its address has 32 bits
+pub found-fits : (cs : List Class) (shape : Shape) (at k offset : ℕ) (weak : Bool) → FoundPlace cs shape k offset weak → at + size_in cs shape ≤ 2 ^ 32 → at + offset < 2 ^ 32
+found-fits cs shape at k offset weak it fits =
+    let there = reference-in cs shape k it.place it.is in
+    let within = place-within cs shape Ref it.place.offset it.place (record { is_in = there.0; kind_is = there.1; offset_is = refl }) in
+    omega (arith, it.offset_is, within.2, fits)
+
 -- no object has so many references
 pub none-last : (cs : List Class) (shape : Shape) (at : ℕ) → at + size_in cs shape ≤ 2 ^ 32 → reference_place cs shape (2 ^ 64 - 1) ≡ None
 none-last cs shape at fits = by (reference_place cs shape (2 ^ 64 - 1)) refl
@@ -154,7 +184,6 @@ module _ (cs : List Class) (v : View) (raws : Raws) (ats : List Addr) (ok : AreR
   pub among-more : (i : ℕ) (old mid new : List ℕ) → i < length ats → Adds (IsWeakAmong cs raws ats i) old mid → Adds (IsWeakIn cs (raws.raw (at_of ats i)).shape (at_of ats i)) mid new
       → Adds (IsWeakAmong cs raws ats (i + 1)) old new
   among-more i old mid new below first next =
-      let mine : ℕ → Type 0 = IsWeakIn cs (raws.raw (at_of ats i)).shape (at_of ats i) in
       adds-both (IsWeakAmong cs raws ats i) (IsWeakIn cs (raws.raw (at_of ats i)).shape (at_of ats i)) (IsWeakAmong cs raws ats (i + 1)) old mid new
       (λ b it. elim (cases_eq it.index i) [
         | inl same ↦ inr (subst (λ k. IsWeakIn cs (raws.raw (at_of ats k)).shape (at_of ats k) b) same it.is)
@@ -177,21 +206,18 @@ pub record IsWeakFirst (slots : List Slot) (k b : ℕ) : Type 0 where
 in-index : (x : Slot) (xs : List Slot) → IsIn x xs → (i : ℕ) × (i < length xs) × (slot_of xs i ≡ x)
 in-index x [] is = absurd is
 in-index x (y ∷ ys) (inl same) = (0, omega arith, same)
-in-index x (y ∷ ys) (inr later) = let it = in-index x ys later in (it.0 + 1, omega (arith, it.1), it.2)
+in-index x (y ∷ ys) (inr later) = let it = in-index x ys later in (suc it.0, omega (arith, it.1), it.2)
 
 index-in : (xs : List Slot) (i : ℕ) → i < length xs → IsIn (slot_of xs i) xs
 index-in [] i below = absurd (omega (arith, below))
-index-in (y ∷ ys) i below = elim (cases_eq i 0) [
-  | inl first ↦ subst (λ k. IsIn (slot_of (y ∷ ys) k) (y ∷ ys)) (sym first) (inl refl)
-  | inr ne ↦ let e : i ≡ (i - 1) + 1 = omega (arith, ne) in subst (λ k. IsIn (slot_of (y ∷ ys) k) (y ∷ ys)) (sym e) (inr (index-in ys (i - 1) (omega (arith, below, ne))))
-]
+index-in (y ∷ ys) zero below = inl refl
+index-in (y ∷ ys) (suc i) below = inr (index-in ys i (omega (arith, below)))
 
 pub slots-none : (slots : List Slot) (xs : List ℕ) → Adds (IsWeakFirst slots 0) xs xs
 slots-none slots xs = adds-none (IsWeakFirst slots 0) xs (λ b it. omega (arith, it.before))
 
 slots-apart : (slots : List Slot) (i j : ℕ) → IsDistinct nat_eq (map (λ (slot : Slot). slot.at.0) slots) → i < j → j < length slots → (slot_of slots i).at.0 ≢ (slot_of slots j).at.0
 slots-apart slots i j distinct low below =
-    let at : Slot → ℕ = λ (slot : Slot). slot.at.0 in
     let d : Slot = record { at = record { 0 = 0 }; target = record { 0 = 0 }; weak = false } in
     let n = length-map slots (λ (slot : Slot). slot.at.0) in
     let apart = eqb-false _ _ (apart_from_distinct nat_eq (map (λ (slot : Slot). slot.at.0) slots) i j 0 distinct low (omega (arith, below, n))) in
