@@ -114,9 +114,9 @@ place-found cs shape k x found = by (reference_place cs shape k) refl found
         let same : x ≡ told p = same_Some x (told p) e in
         record { place = p; is = is; offset_is = ap (λ (y : ℕ × Bool). y.0) same; weak_is = ap (λ (y : ℕ × Bool). y.1) same }
 
-pub no-place : (found : Option (ℕ × Bool)) (place : Option FieldAt) → ((x : ℕ × Bool) → found ≡ Some x → ⊥) → found ≡ option_map told place → place ≡ None
-no-place found None none e = refl
-no-place found (Some p) none e = absurd (none (told p) e)
+pub no-place : (place : Option FieldAt) → None ≡ option_map told place → place ≡ None
+no-place None e = refl
+no-place (Some p) e = absurd (none-some (told p) e)
 
 -- its address has 32 bits
 pub found-fits : (cs : List Class) (shape : Shape) (at k offset : ℕ) (weak : Bool) → FoundPlace cs shape k offset weak → at + size_in cs shape ≤ 2 ^ 32 → at + offset < 2 ^ 32
