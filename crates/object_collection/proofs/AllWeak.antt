@@ -1,22 +1,19 @@
 -- The weak references of the live objects and of the slots, put together.
-use Rattle.std.proofs.Common.{◌≡◌, ◌≢◌, ◌∙◌, ℕ, ◌+◌, ◌<◌, ◌≤◌, true, false, List, [], get_or, length, map, refl, sym, ap, subst, inl, inr, arith, All}
+use Rattle.std.proofs.Common.{◌≡◌, ◌∙◌, ℕ, ◌<◌, ◌≤◌, true, List, [], get_or, length, sym, ap, subst, inl, inr, arith}
 use Rattle.std.specs.Prelude.{◌⊎◌}
 use Rattle.std.specs.List.{Contains}
-use Rattle.std.proofs.lemmas.Bool.{cases_order, false≢true}
+use Rattle.std.proofs.lemmas.Bool.{false≢true}
 use Rattle.std.proofs.lemmas.List.{get_or_default, get_or-map, length-map}
 use Rattle.std.proofs.lemmas.List.Elements.{Contains-get_or}
 use Rattle.std.proofs.lemmas.Map.Keys.{apart_from_distinct}
 use Rattle.std.proofs.lemmas.Bool.{eqb-false}
-use Rattle.model_numbers.specs.Numbers.{region_base}
 use Rattle.class_layout.specs.ClassList.{Class}
 use Rattle.page_tables.specs.declared.address.Addr.{Addr}
 use Rattle.bit_set.specs.Bits.{Bits}
 use Rattle.cow_pages.specs.Memory.{Memory}
-use Rattle.cow_pages.specs.View.{View, view_of}
-use Rattle.object_view.specs.declared.names.Slot.{Slot}
+use Rattle.cow_pages.specs.View.{view_of}
 use Rattle.raw_objects.specs.Raws.{HoldsRaws, Raws}
 use Rattle.raw_objects.specs.References.{in_regions}
-use Rattle.large_objects.specs.Rows.{slot_base}
 use Rattle.live_objects.specs.Live.{addresses}
 use Rattle.live_objects.specs.Reach.{is_mortal}
 use Rattle.live_objects.proofs.MarkLemmas.{mortal-cases}

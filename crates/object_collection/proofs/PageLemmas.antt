@@ -1,6 +1,6 @@
 -- Pages and slots that are counted one after the other.
 use Rattle.std.proofs.Common.{◌≡◌, ◌∙◌, ℕ, ◌+◌, ◌-◌, ◌*◌, ◌<◌, ◌≤◌, Bool, true, false, List, [], ◌∷◌, ◌++◌, length, map, drop, get_or, All, nat_le, refl, sym, ap, subst, inl, inr, arith}
-use Rattle.std.specs.Prelude.{◌⊎◌, IsTrue, if◌then◌else◌, sum}
+use Rattle.std.specs.Prelude.{IsTrue, if◌then◌else◌}
 use Rattle.std.proofs.lemmas.Bool.{cases_lt, le-leb, lt-leb}
 use Rattle.std.proofs.lemmas.List.{append-nil, drop_all, drop_more, get_or-map, length-append, length-map}
 use Rattle.std.proofs.lemmas.List.Elements.{All-from_get_or, All-head, All-tail}
@@ -12,7 +12,7 @@ use Rattle.bit_set.specs.Bits.{Bits, is_member}
 use Rattle.cow_pages.specs.Memory.{Memory}
 use Rattle.cow_pages.specs.View.{View, view_of}
 use Rattle.heap_graph.specs.Packing.{end_from}
-use Rattle.heap_graph.specs.Sizes.{parts_for, size_in}
+use Rattle.heap_graph.specs.Sizes.{parts_for}
 use Rattle.image_space.specs.Space.{pages_up_to}
 use Rattle.object_view.proofs.Laid.{size-bounds}
 use Rattle.raw_objects.specs.Raws.{raw_size, Raws}

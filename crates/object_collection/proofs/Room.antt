@@ -14,7 +14,6 @@ use Rattle.heap_graph.specs.Packing.{after, end_from, place, place_if, places_fr
 use Rattle.heap_graph.specs.Sizes.{parts_for}
 use Rattle.object_view.proofs.Laid.{size-bounds}
 use Rattle.raw_objects.specs.Raws.{raw_size, Raws}
-use Rattle.raw_objects.specs.References.{in_regions}
 use Rattle.region_lists.specs.Rows.{Row}
 use Rattle.region_space.specs.Packed.{address_in}
 use Rattle.region_space.specs.Space.{lists_of, IsSpace}

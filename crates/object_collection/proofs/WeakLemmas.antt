@@ -1,9 +1,9 @@
 -- Weak references that are listed one after the other.
-use Rattle.std.proofs.Common.{◌≡◌, ◌≢◌, ◌∙◌, ℕ, zero, suc, ◌+◌, ◌-◌, ◌^◌, ◌<◌, ◌≤◌, Bool, true, false, List, [], ◌∷◌, ◌++◌, get_or, length, map, nat_eq, Option, Some, None, refl, sym, ap, subst, inl, inr, arith}
-use Rattle.std.specs.Prelude.{◌⊎◌, ◌&&◌, nat_lt, option_map}
-use Rattle.std.specs.List.{Contains, IsDistinct}
+use Rattle.std.proofs.Common.{◌≡◌, ◌≢◌, ◌∙◌, ℕ, zero, suc, ◌+◌, ◌-◌, ◌^◌, ◌<◌, ◌≤◌, Bool, true, false, List, [], ◌∷◌, ◌++◌, length, map, nat_eq, Option, Some, None, refl, sym, ap, subst, inl, inr, arith}
+use Rattle.std.specs.Prelude.{◌&&◌, nat_lt, option_map}
+use Rattle.std.specs.List.{IsDistinct}
 use Rattle.std.proofs.lemmas.Bool.{cases_eq, cases_lt, cases_order, eqb-false, false≢true}
-use Rattle.std.proofs.lemmas.List.{get_or-map, length-map, map-append}
+use Rattle.std.proofs.lemmas.List.{get_or-map, length-map}
 use Rattle.std.proofs.lemmas.Map.Keys.{apart_from_distinct}
 use Rattle.std.proofs.lemmas.Option.{none-some, same_Some}
 use Rattle.model_numbers.specs.Numbers.{region_base}
@@ -15,20 +15,19 @@ use Rattle.class_layout.specs.Kinds.{is_ref}
 use Rattle.class_layout.specs.Placing.{IsIn}
 use Rattle.page_tables.specs.declared.address.Addr.{Addr}
 use Rattle.cow_pages.specs.Memory.{Memory}
-use Rattle.cow_pages.specs.View.{View, view_of}
+use Rattle.cow_pages.specs.View.{View}
 use Rattle.heap_graph.specs.declared.names.Shape.{Shape}
 use Rattle.heap_graph.specs.declared.names.Shape.TheVariants.{Instance, Array}
-use Rattle.heap_graph.specs.Places.{element, places_of}
+use Rattle.heap_graph.specs.Places.{element}
 use Rattle.heap_graph.specs.Sizes.{size_in}
 use Rattle.object_view.specs.declared.names.Slot.{Slot}
 use Rattle.object_view.specs.Changes.{reads_after_all, shape_reads}
 use Rattle.object_view.specs.Objects.{place_if, reference_count, reference_place}
 use Rattle.object_view.proofs.Laid.{place-within, reference-in, references-rise}
 use Rattle.object_view.proofs.References.{references-each, references-found}
-use Rattle.raw_objects.specs.Raws.{raw_size, HoldsRaws, Raws}
+use Rattle.raw_objects.specs.Raws.{HoldsRaws, Raws}
 use Rattle.raw_objects.proofs.Turned.{rises-by}
 use Rattle.raw_objects.proofs.Uncounted.{read-free}
-use Rattle.live_objects.specs.Live.{addresses}
 use Rattle.object_moves.specs.Copies.{at_of}
 use Rattle.object_moves.specs.Turns.{slot_of}
 use Rattle.object_collection.specs.Listed.{IsWeakSlot}
@@ -90,9 +89,9 @@ module _ (cs : List Class) (shape : Shape) (at : ℕ) where
       adds-same (IsWeakBefore cs shape at k) (IsWeakIn cs shape at) old new
       (λ b it. let there = reference-in cs shape it.index it.place it.is in record { place = it.place; is_in = there.0; kind_is = there.1; weak_is = it.weak_is; at_is = it.at_is })
       (λ b it.
-        let found = references-found cs shape it.place it.is_in it.kind_is in
-        let past : reference_count cs shape ≤ k = elim (cases_lt k (reference_count cs shape)) [ inl lt ↦ absurd (let each = references-each cs shape k lt in none-some each.0 (sym none ∙ each.1)) | inr ge ↦ ge ] in
-        record { index = found.0; before = omega (arith, found.1, past); place = it.place; is = found.2; weak_is = it.weak_is; at_is = it.at_is })
+      let found = references-found cs shape it.place it.is_in it.kind_is in
+      let past : reference_count cs shape ≤ k = elim (cases_lt k (reference_count cs shape)) [ inl lt ↦ absurd (let each = references-each cs shape k lt in none-some each.0 (sym none ∙ each.1)) | inr ge ↦ ge ] in
+      record { index = found.0; before = omega (arith, found.1, past); place = it.place; is = found.2; weak_is = it.weak_is; at_is = it.at_is })
       adds
 
 -- what a class tells of a reference
@@ -251,6 +250,6 @@ slots-all slots k old new all adds =
     adds-same (IsWeakFirst slots k) (IsWeakSlot slots) old new
     (λ b it. record { slot = slot_of slots it.index; is_in = index-in slots it.index (omega (arith, it.before, all)); weak_is = it.weak_is; at_is = it.at_is })
     (λ b it.
-      let found = in-index it.slot slots it.is_in in
-      record { index = found.0; before = omega (arith, found.1, all); weak_is = ap (λ (s : Slot). s.weak) found.2 ∙ it.weak_is; at_is = ap (λ (s : Slot). s.at.0) found.2 ∙ it.at_is })
+    let found = in-index it.slot slots it.is_in in
+    record { index = found.0; before = omega (arith, found.1, all); weak_is = ap (λ (s : Slot). s.weak) found.2 ∙ it.weak_is; at_is = ap (λ (s : Slot). s.at.0) found.2 ∙ it.at_is })
     adds

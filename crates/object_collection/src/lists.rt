@@ -59,11 +59,7 @@ pub fn pages_for(frames: &mut Frames, classes: &Classes, t: TableNo, young: &[Ad
     let mut fill = REGION_BYTES;
     for at in young {
         let size = young_size(frames, classes, t, *at);
-        let before = if fill + size <= REGION_BYTES {
-            fill
-        } else {
-            0
-        };
+        let before = if fill + size <= REGION_BYTES { fill } else { 0 };
         fill = before + size;
         pages += pages_up_to(fill) - pages_up_to(before);
     }

@@ -1,5 +1,5 @@
-use Rattle.std.proofs.Common.{◌≡◌, ◌∙◌, ◌+◌, ◌<◌, ◌≤◌, ℕ, List, length, drop, get_or, sym, ap, subst, arith, rules}
-use Rattle.std.proofs.lemmas.List.{drop_all, length-map}
+use Rattle.std.proofs.Common.{◌≡◌, ◌∙◌, ◌+◌, ◌<◌, ℕ, List, length, sym, arith}
+use Rattle.std.proofs.lemmas.List.{length-map}
 use Rattle.page_tables.specs.declared.address.Addr.{Addr}
 use Rattle.cow_pages.specs.View.{view_of}
 use Rattle.raw_objects.specs.Raws.{raw_size, Raws}

@@ -1,7 +1,6 @@
-use Rattle.std.proofs.Common.{◌≡◌, ◌∙◌, ◌+◌, ◌<◌, ◌++◌, ◌∷◌, ℕ, List, [], sym, ap, subst, arith}
+use Rattle.std.proofs.Common.{◌∙◌, ◌+◌, ℕ, [], sym, ap, subst, arith}
 use Rattle.std.proofs.lemmas.List.{map-append}
 use Rattle.page_tables.specs.declared.address.Addr.{Addr}
-use Rattle.large_objects.specs.Rows.{slot_base}
 use Rattle.live_objects.specs.Live.{addresses}
 use Rattle.object_collection.specs.Weaks.{Adds}
 use Rattle.object_collection.proofs.PageLemmas.{IsSlotBelow, slots-listed, slots-more, slots-same}

@@ -1,5 +1,4 @@
-use Rattle.std.proofs.Common.{◌≡◌, ◌∙◌, ◌+◌, ◌<◌, ℕ, List, length, refl, sym, ap, subst, arith}
-use Rattle.page_tables.specs.declared.address.Addr.{Addr}
+use Rattle.std.proofs.Common.{◌≡◌, ◌∙◌, ◌<◌, ℕ, length, refl, sym, subst, arith}
 use Rattle.cow_pages.specs.Memory.{Memory}
 use Rattle.cow_pages.specs.View.{view_of}
 use Rattle.raw_objects.specs.Raws.{HoldsRaws, Raws}

@@ -1,6 +1,5 @@
-use Rattle.std.proofs.Common.{◌≡◌, ◌∙◌, ◌+◌, ◌<◌, ℕ, List, [], length, refl, sym, ap, subst, arith, map, nat_eq}
+use Rattle.std.proofs.Common.{ℕ, List, refl, sym, ap, subst, map, nat_eq}
 use Rattle.std.specs.List.{IsDistinct}
-use Rattle.cow_pages.specs.View.{view_of}
 use Rattle.object_view.specs.declared.names.Slot.{Slot}
 use Rattle.live_objects.specs.Live.{addresses}
 use Rattle.object_collection.specs.Listed.{IsWeakSlot}
@@ -21,9 +20,11 @@ push_weak-requires-2 c =
     let h = c.requires.0 in
     let raws = c.requires.1 in
     let m = c.args.frames.now in
-    let ats = c.in_ok-large.large.items in
-    (raws, readable-as h.classes c.args.classes.now m c.push_weak.new.frames c.args.t.0 raws ats c.deref-2.result.now c.requires.3 c.push_weak.ensures.same c.deref-2.ensures.value
-    (large-readable h m c.args.t.0 raws c.args.live.now.young.items c.args.live.now.large c.requires.2 ats c.in_ok-large.ensures))
+    let ats = c.in_ok-large.large.items in (
+      raws,
+      readable-as h.classes c.args.classes.now m c.push_weak.new.frames c.args.t.0 raws ats c.deref-2.result.now c.requires.3 c.push_weak.ensures.same c.deref-2.ensures.value
+          (large-readable h m c.args.t.0 raws c.args.live.now.young.items c.args.live.now.large c.requires.2 ats c.in_ok-large.ensures),
+    )
 
 pub push_weak_slots-requires : goal.push_weak_slots-requires
 push_weak_slots-requires c = subst (λ (slots : List Slot). IsDistinct nat_eq (map (λ (slot : Slot). slot.at.0) slots)) c.requires.4 c.requires.2.can.slots.once
