@@ -4,3 +4,8 @@ pub mod Turnings
 pub mod Nulled
 pub mod Marked
 pub mod Dropping
+pub mod Growing
+pub mod PageLemmas
+pub mod Room
+pub mod WeakLemmas
+pub mod AllWeak
