@@ -52,7 +52,7 @@ some-frame (Some page) is = (page.frame, refl)
 pub mapped-alone : (old new : Memory) (t p : ℕ) → OnlyTable old new t → HasOneSharer old t p → IsTrue (is_mapped new t p) → HasOneSharer new t p
 mapped-alone old new t p only alone is = let it = some-frame (page_at new t p) is in alone-stays old new t t p it.0 only alone it.1
 
-dead-window : (rows : List LargeRow) (q : LargeRow → Bool) (p : ℕ) → AreRows rows → list_any (holds_page p) (filter q rows) ≡ true → is_in Large p ≡ true
+pub dead-window : (rows : List LargeRow) (q : LargeRow → Bool) (p : ℕ) → AreRows rows → list_any (holds_page p) (filter q rows) ≡ true → is_in Large p ≡ true
 dead-window rows q p are is = any-in-window p rows are.within are.bytes (any-fewer (holds_page p) q rows is)
 
 module _ (old mid : Memory) (t : ℕ) (s : Lists) (rows : List LargeRow) (ats : List Addr) (space : IsSpace s) (are : AreRows rows) (unmarked : All (λ (row : LargeRow). row.marked ≡ false) rows)

@@ -9,3 +9,6 @@ pub mod PageLemmas
 pub mod Room
 pub mod WeakLemmas
 pub mod AllWeak
+pub mod Running
+pub mod Sizes
+pub mod Final
