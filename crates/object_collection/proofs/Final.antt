@@ -1,11 +1,19 @@
 -- What holds after a collection.
-use Rattle.std.proofs.Common.{◌≡◌, ◌≢◌, ◌∙◌, ◌⊎◌, ◌||◌, ℕ, ◌+◌, ◌*◌, ◌<◌, ◌≤◌, inl, inr, Bool, true, false, List, [], ◌++◌, Option, filter, length, map, nat_eq, refl, sym, ap, subst, arith}
-use Rattle.std.specs.Prelude.{IsTrue, count_by, is_some}
-use Rattle.std.specs.List.{list_any, Contains}
-use Rattle.std.proofs.lemmas.Bool.{eqb-true, or_cases, or_from, or_left}
-use Rattle.std.proofs.lemmas.List.{append-nil}
+use Rattle.std.proofs.Common.{◌≡◌, ◌≢◌, ◌∙◌, ◌⊎◌, ◌||◌, ℕ, ◌+◌, ◌*◌, ◌<◌, ◌≤◌, inl, inr, Bool, true, false, cond, List, [], ◌∷◌, ◌++◌, Option, filter, length, map, nat_eq, refl, sym, ap, subst, arith}
+use Rattle.std.specs.Prelude.{IsTrue, count_by, is_some, nat_le, nat_lt}
+use Rattle.std.specs.List.{list_any, AllByRecursion, Contains}
+use Rattle.std.specs.List.{IsDistinct}
+use Rattle.std.proofs.lemmas.Cmp.{nat_eq_equiv}
+use Rattle.std.proofs.lemmas.List.Sums.{length-filter}
+use Rattle.std.proofs.lemmas.Map.Made.{is_member-Decides, length-le_from_is_member}
+use borrow.Author.Tests.{ltb-true}
+use Rattle.model_numbers.specs.Numbers.{region_base}
+use Rattle.live_objects.specs.Reach.{is_mortal}
+use Rattle.live_objects.proofs.YoungLemmas.{map-in}
+use Rattle.std.proofs.lemmas.Bool.{and_parts, eq-eqb, eqb-true, or_cases, or_from, or_left}
+use Rattle.std.proofs.lemmas.List.{append-nil, length-map}
 use Rattle.std.proofs.lemmas.List.Folds.{list_any-append}
-use Rattle.page_tables.specs.declared.address.Window.TheVariants.{Regions}
+use Rattle.page_tables.specs.declared.address.Window.TheVariants.{Image, Regions, Zygote}
 use Rattle.page_tables.specs.Address.{is_immune, is_in, page_of}
 use Rattle.object_view.specs.declared.names.Slot.{Slot}
 use Rattle.object_view.proofs.Rises.{reads-rise, rose-more}
@@ -37,10 +45,10 @@ use Rattle.object_collection.specs.Collects.{may_change, CanCollect, HeapState, 
 use Rattle.object_collection.specs.Phases.{goes_by, is_turned, stays_by, stays_in, HaveMoved, IsPlan, Listed, LosesPages}
 use Rattle.object_collection.proofs.Marked.{filter-fewer, gone-waits}
 use Rattle.object_collection.proofs.Dropping.{dead-window, mapped-alone}
-use Rattle.object_collection.proofs.Facts.{any-at, may-large, may-young}
-use Rattle.object_collection.proofs.Nulled.{weak-page}
+use Rattle.object_collection.proofs.Facts.{any-at, filter-from, may-large, may-young, mortal-cases, reached-has}
+use Rattle.object_collection.proofs.Nulled.{slot-in, weak-page}
 use Rattle.object_collection.proofs.Steps.{any-fewer}
-use Rattle.object_collection.proofs.Running.{cleared, contains-in, gone, kept1, only-three}
+use Rattle.object_collection.proofs.Running.{cleared, contains-in, gone, kept1, only-three, regions-high}
 
 no : (b : Bool) → (b ≡ true → ⊥) → b ≡ false
 no true fails = absurd (fails refl)
@@ -50,9 +58,49 @@ clash : (b : Bool) → b ≡ true → b ≡ false → ⊥
 clash true e f = cc
 clash false e f = cc
 
+all-filter : (x : ℕ) (keep : ℕ → Bool) (xs : List ℕ) → AllByRecursion (λ y. nat_eq x y ≡ false) xs → AllByRecursion (λ y. nat_eq x y ≡ false) (filter keep xs)
+all-filter x keep [] all = tt
+all-filter x keep (y ∷ ys) all = by (keep y) (all-filter x keep ys all.1)
+  where
+    by : (b : Bool) → AllByRecursion (λ y. nat_eq x y ≡ false) (filter keep ys) → AllByRecursion (λ y. nat_eq x y ≡ false) (cond b (y ∷ filter keep ys) (filter keep ys))
+    by true rest = (all.0, rest)
+    by false rest = rest
+
+distinct-filter : (keep : ℕ → Bool) (xs : List ℕ) → IsDistinct nat_eq xs → IsDistinct nat_eq (filter keep xs)
+unfolding IsDistinct
+distinct-filter keep [] d = tt
+distinct-filter keep (x ∷ xs) d = by (keep x) (distinct-filter keep xs d.1)
+  where
+    by : (b : Bool) → IsDistinct nat_eq (filter keep xs) → IsDistinct nat_eq (cond b (x ∷ filter keep xs) (filter keep xs))
+    by true rest = (all-filter x keep xs d.0, rest)
+    by false rest = rest
+
+-- the immune windows lie below the regions
+immune-low : (b : ℕ) → is_immune b ≡ true → b < region_base
+immune-low b is = elim (or_cases (is_in Image (page_of b)) (is_in Zygote (page_of b)) is) [
+  | inl image ↦ let high = ltb-true (page_of b) 147456 (and_parts (nat_le 131072 (page_of b)) (nat_lt (page_of b) 147456) image).1 in omega (arith, high)
+  | inr zygote ↦ let high = ltb-true (page_of b) 262144 (and_parts (nat_le 196608 (page_of b)) (nat_lt (page_of b) 262144) zygote).1 in omega (arith, high)
+]
+
+mortal-high : (rows : List LargeRow) (a : ℕ) → is_mortal rows a ≡ true → region_base ≤ a
+mortal-high rows a is = elim (mortal-cases rows a is) [ inl young ↦ regions-high a young | inr large ↦ let at = large.at_is in omega (arith, at) ]
+
 -- of the weak references at most as many lie in the immune windows as there are slots
 immune-few : (h : HeapState) (m : Memory) (t : ℕ) (raws : Raws) (plan : Listed) → CanCollect h m t raws → IsPlan h m raws plan → count_by is_immune (addresses plan.weak) ≤ length h.slots
-immune-few h m t raws plan can ok = ?
+immune-few h m t raws plan can ok =
+    let weak : List ℕ = addresses plan.weak in
+    let ats : List ℕ = map (λ (slot : Slot). slot.at.0) h.slots in
+    let few = length-le_from_is_member nat_eq_equiv (filter is_immune weak) ats (distinct-filter is_immune weak ok.weak.once) (λ q is.
+        let there = (is_member-Decides (λ a b. (eqb-true a b, eq-eqb a b)) (filter is_immune weak) q).0 is in
+        let found = filter-from is_immune weak q there in
+        (is_member-Decides (λ a b. (eqb-true a b, eq-eqb a b)) ats q).1 (listed q found.0 found.1)) in
+    omega (arith, few, length-filter is_immune weak, length-map h.slots (λ (slot : Slot). slot.at.0))
+  where
+    listed : (q : ℕ) → Contains (addresses plan.weak) q → is_immune q ≡ true → Contains (map (λ (slot : Slot). slot.at.0) h.slots) q
+    listed q c immune = elim ((ok.weak.only q).0 c) [
+      | inl it ↦ let low = immune-low q immune in let high = mortal-high h.rows it.object (reached-has h m t raws can it.object it.reached).1 in let at = it.at_is in absurd (omega (arith, low, high, at))
+      | inr it ↦ subst (λ (n : ℕ). Contains (map (λ (slot : Slot). slot.at.0) h.slots) n) it.at_is (map-in (λ (slot : Slot). slot.at.0) h.slots it.slot (slot-in h.slots it.slot it.is_in))
+    ]
 
 module _ (h : HeapState) (m : Memory) (t : ℕ) (raws : Raws) (plan : Listed) (can : CanCollect h m t raws) (ok : IsPlan h m raws plan) where
   -- the objects after the copies were made

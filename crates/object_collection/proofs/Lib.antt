@@ -12,3 +12,4 @@ pub mod AllWeak
 pub mod Running
 pub mod Sizes
 pub mod Final
+pub mod Reserved

@@ -57,13 +57,13 @@ rising-lower : (low other : ℕ) (ps : List ℕ) → other ≤ low → AreRising
 rising-lower low other [] le rising = tt
 rising-lower low other (p ∷ ps) le rising = (omega (arith, le, rising.0), rising.1)
 
-places-rising : (p : ℕ) (sizes : List ℕ) → All (λ s. 0 < s) sizes → AreRising p (places_from p sizes)
+pub places-rising : (p : ℕ) (sizes : List ℕ) → All (λ s. 0 < s) sizes → AreRising p (places_from p sizes)
 places-rising p [] some = tt
 places-rising p (s ∷ ss) some =
     let first = All-head (λ s. 0 < s) s ss some in
     (above p s, rising-lower (after p s) (place p s + 1) (places_from (after p s) ss) (omega (arith, first)) (places-rising (after p s) ss (All-tail (λ s. 0 < s) s ss some)))
 
-places-within : (p bound : ℕ) (sizes : List ℕ) → All (λ s. 0 < s) sizes → end_from p sizes ≤ bound → All (λ q. q < bound) (places_from p sizes)
+pub places-within : (p bound : ℕ) (sizes : List ℕ) → All (λ s. 0 < s) sizes → end_from p sizes ≤ bound → All (λ q. q < bound) (places_from p sizes)
 places-within p bound [] some le = All-nil (λ q. q < bound)
 places-within p bound (s ∷ ss) some le =
     let first = All-head (λ s. 0 < s) s ss some in
@@ -134,12 +134,12 @@ rank-back h space p below =
     (address-is (regions h.regions.in_use) p (regions-within (lists_of h.regions) space) (λ i under. distinct-index (regions h.regions.in_use) i (in_use-apart (lists_of h.regions) space) under)
     (omega (arith, below, length-map h.regions.in_use (λ (row : Row). row.region)))).back
 
-at-place : (young : List Addr) (in_use : List Row) (ps : List ℕ) → addresses young ≡ map (address_in in_use) ps → (i : ℕ) → i < length young → i < length ps → at_of young i ≡ address_in in_use (get_or ps i 0)
+pub at-place : (young : List Addr) (in_use : List Row) (ps : List ℕ) → addresses young ≡ map (address_in in_use) ps → (i : ℕ) → i < length young → i < length ps → at_of young i ≡ address_in in_use (get_or ps i 0)
 at-place young in_use ps stand i below under =
     let none : Addr = record { 0 = 0 } in
     sym (get_or-map (λ (a : Addr). a.0) young i none 0 below) ∙ ap (λ ns. get_or ns i 0) stand ∙ get_or-map (address_in in_use) ps i 0 0 under
 
-rising-apart : (low : ℕ) (ps : List ℕ) (i j : ℕ) → AreRising low ps → i < j → j < length ps → get_or ps i 0 < get_or ps j 0
+pub rising-apart : (low : ℕ) (ps : List ℕ) (i j : ℕ) → AreRising low ps → i < j → j < length ps → get_or ps i 0 < get_or ps j 0
 rising-apart low [] i j rising before below = absurd (omega (arith, below))
 rising-apart low (p ∷ ps) i zero rising before below = absurd (omega (arith, before))
 rising-apart low (p ∷ ps) zero (suc j) rising before below = let it = rising-above (p + 1) ps (get_or ps j 0) rising.1 (Contains-get_or ps j 0 (omega (arith, below))) in omega (arith, it)
