@@ -1,16 +1,20 @@
 -- What holds after a collection.
-use Rattle.std.proofs.Common.{◌≡◌, ◌≢◌, ◌∙◌, ◌⊎◌, ◌||◌, ℕ, ◌+◌, ◌*◌, ◌<◌, ◌≤◌, inl, inr, Bool, true, false, cond, List, [], ◌∷◌, ◌++◌, Option, filter, length, map, nat_eq, refl, sym, ap, subst, arith}
-use Rattle.std.specs.Prelude.{IsTrue, count_by, is_some, nat_le, nat_lt}
+use Rattle.std.proofs.Common.{◌≡◌, ◌≢◌, ◌∙◌, ◌⊎◌, ◌||◌, ◌&&◌, ℕ, ◌+◌, ◌*◌, ◌<◌, ◌≤◌, inl, inr, Bool, true, false, cond, List, [], ◌∷◌, ◌++◌, Option, filter, length, map, nat_eq, refl, sym, ap, subst, arith}
+use Rattle.std.specs.Prelude.{if◌then◌else◌, IsTrue, count_by, is_some, nat_le, nat_lt, not}
 use Rattle.std.specs.List.{list_any, AllByRecursion, Contains}
 use Rattle.std.specs.List.{IsDistinct}
 use Rattle.std.proofs.lemmas.Cmp.{nat_eq_equiv}
 use Rattle.std.proofs.lemmas.List.Sums.{length-filter}
 use Rattle.std.proofs.lemmas.Map.Made.{is_member-Decides, length-le_from_is_member}
 use borrow.Author.Tests.{ltb-true}
-use Rattle.model_numbers.specs.Numbers.{region_base}
-use Rattle.live_objects.specs.Reach.{is_mortal}
-use Rattle.live_objects.proofs.YoungLemmas.{map-in}
-use Rattle.std.proofs.lemmas.Bool.{and_parts, eq-eqb, eqb-true, or_cases, or_from, or_left}
+use Rattle.model_numbers.specs.Numbers.{large_slot_count, region_base}
+use Rattle.live_objects.specs.Reach.{in_large, is_mortal, is_node, starts_of, waits_in}
+use Rattle.live_objects.proofs.YoungLemmas.{in-first, in-rest, map-in}
+use Rattle.std.proofs.lemmas.Bool.{and_from, and_parts, eq-eqb, eqb-true, or_cases, or_from, or_left, or_parts, or_right}
+use Rattle.std.proofs.lemmas.List.Elements.{Contains-append_left}
+use Rattle.bit_set.specs.Bits.{is_member}
+use Rattle.region_space.proofs.PageLemmas.{inside}
+use Rattle.live_objects.proofs.ReachLemmas.{reached-start}
 use Rattle.std.proofs.lemmas.List.{append-nil, length-map}
 use Rattle.std.proofs.lemmas.List.Folds.{list_any-append}
 use Rattle.page_tables.specs.declared.address.Window.TheVariants.{Image, Regions, Zygote}
@@ -29,26 +33,26 @@ use Rattle.cow_pages.proofs.OnlyLemmas.{only-trans}
 use Rattle.object_view.specs.Changes.{reads_after_all}
 use Rattle.object_view.specs.Seen.{RoseBy}
 use Rattle.raw_objects.specs.Keeps.{Keeps}
-use Rattle.raw_objects.specs.Raws.{HoldsRaws, Raws}
-use Rattle.raw_objects.specs.References.{turned_where}
+use Rattle.raw_objects.specs.Raws.{among, HoldsRaws, Raw, Raws}
+use Rattle.raw_objects.specs.References.{goes, in_regions, now_at, turned_where}
 use Rattle.region_space.specs.Space.{filled, lists_of, IsSpace, Space}
 use Rattle.region_space.specs.Space.{HasPages as HasRegionPages}
 use Rattle.region_space.specs.Space.{holds_page as region_page}
 use Rattle.large_objects.specs.declared.rows.LargeRow.{LargeRow}
 use Rattle.large_objects.specs.Pages.{holds_page, HasPages}
-use Rattle.large_objects.specs.Rows.{waits}
+use Rattle.large_objects.specs.Rows.{row_at, slot_base, waits, AreRows}
 use Rattle.live_objects.specs.Live.{addresses}
 use Rattle.weak_refs.specs.Weak.{is_dead, is_page_of, ClearsSlots}
-use Rattle.object_moves.specs.Copies.{moved, KeepsOutside}
+use Rattle.object_moves.specs.Copies.{at_of, moved, sizes_at, HoldsRegions, KeepsOutside, PacksAt}
 use Rattle.object_moves.specs.Turns.{gone_to}
-use Rattle.object_collection.specs.Collects.{may_change, CanCollect, HeapState, IsCollected, LeavesPages}
-use Rattle.object_collection.specs.Phases.{goes_by, is_turned, stays_by, stays_in, HaveMoved, IsPlan, Listed, LosesPages}
+use Rattle.object_collection.specs.Collects.{may_change, AreLeft, AreRowsLeft, CanCollect, HeapState, IsCollected, IsReached, Leads, LeavesPages}
+use Rattle.object_collection.specs.Phases.{goes_by, is_lost, is_turned, leads_to, slot_in, stays_by, stays_in, HaveMoved, IsPlan, Listed, LosesPages}
 use Rattle.object_collection.proofs.Marked.{filter-fewer, gone-waits}
 use Rattle.object_collection.proofs.Dropping.{dead-window, mapped-alone}
-use Rattle.object_collection.proofs.Facts.{any-at, filter-from, may-large, may-young, mortal-cases, reached-has}
+use Rattle.object_collection.proofs.Facts.{all-at, any-at, any-of, filter-from, may-large, may-young, mortal-cases, reached-has, waiting-row, IsWaiting}
 use Rattle.object_collection.proofs.Nulled.{slot-in, weak-page}
 use Rattle.object_collection.proofs.Steps.{any-fewer}
-use Rattle.object_collection.proofs.Running.{cleared, contains-in, gone, kept1, only-three, regions-high}
+use Rattle.object_collection.proofs.Running.{cleared, contains-in, get-in, gone, kept1, only-three, regions-high, same-length, young-reached}
 
 no : (b : Bool) → (b ≡ true → ⊥) → b ≡ false
 no true fails = absurd (fails refl)
@@ -102,6 +106,17 @@ immune-few h m t raws plan can ok =
       | inr it ↦ subst (λ (n : ℕ). Contains (map (λ (slot : Slot). slot.at.0) h.slots) n) it.at_is (map-in (λ (slot : Slot). slot.at.0) h.slots it.slot (slot-in h.slots it.slot it.is_in))
     ]
 
+flip : (b : Bool) → not b ≡ true → b ≡ false
+flip true e = sym e
+flip false e = refl
+
+-- a slot of a waiting object lies in the large window
+row-large : (rows : List LargeRow) (a : ℕ) → AreRows rows → IsWaiting rows a → in_large a ≡ true
+row-large rows a are it =
+    let within = all-at (λ (row : LargeRow). row.slot < large_slot_count) rows it.row are.within it.is_in in
+    let at = it.at_is in
+    inside 524288 655360 (page_of a) (omega (arith, at)) (omega (arith, at, within))
+
 module _ (h : HeapState) (m : Memory) (t : ℕ) (raws : Raws) (plan : Listed) (can : CanCollect h m t raws) (ok : IsPlan h m raws plan) where
   -- the objects after the copies were made
   abbrev pub copied : List Addr → Raws
@@ -142,8 +157,144 @@ module _ (h : HeapState) (m : Memory) (t : ℕ) (raws : Raws) (plan : Listed) (c
     pub waiting-fewer : length (filter waits rows) ≤ length (filter waits h.rows)
     waiting-fewer = subst (λ (rs : List LargeRow). length (filter waits rs) ≤ length (filter waits h.rows)) (sym run.rows_are) (filter-fewer waits (stays_by plan.large) h.rows)
 
+    abbrev now : Raws
+    now = copied tos
+
+    abbrev go : ℕ → ℕ
+    go = leads_to h.rows plan.stays now
+
+    -- what is lost is a large object that is neither promoted nor reached
+    lost-row : (a : ℕ) → is_lost h.rows plan.stays a ≡ true → IsWaiting h.rows a × (is_member plan.stays (slot_in a) ≡ false)
+    lost-row a is =
+        let parts = and_parts (waits_in (row_at h.rows a)) (not (is_member plan.stays (slot_in a))) is in
+        (waiting-row h.rows a parts.0, flip (is_member plan.stays (slot_in a)) parts.1)
+
+    slot-is : (a : ℕ) (it : IsWaiting h.rows a) → slot_in a ≡ it.row.slot
+    slot-is a it = let at = it.at_is in omega (arith, at)
+
+    reached-stays : (a : ℕ) → IsReached h raws a → is_lost h.rows plan.stays a ≡ false
+    reached-stays a r = no (is_lost h.rows plan.stays a) (λ is.
+        let lost = lost-row a is in
+        let there : IsReached h raws (slot_base lost.0.row.slot) = subst (λ (n : ℕ). IsReached h raws n) (sym lost.0.at_is) r in
+        let member = (ok.stays.test lost.0.row lost.0.is_in).1 (inr there) in
+        clash (is_member plan.stays (slot_in a)) (ap (is_member plan.stays) (slot-is a lost.0) ∙ member) lost.1)
+
+    young-stays : (a : ℕ) → in_regions a ≡ true → is_lost h.rows plan.stays a ≡ false
+    young-stays a inside = no (is_lost h.rows plan.stays a) (λ is.
+        let at = (lost-row a is).0.at_is in
+        let parts = and_parts (nat_le 262144 (page_of a)) (nat_lt (page_of a) 327680) inside in
+        let below = ltb-true (page_of a) 327680 parts.1 in
+        omega (arith, at, below))
+
+    -- where an address leads that isn't lost
+    led-by : (a : ℕ) → is_lost h.rows plan.stays a ≡ false → go a ≡ goes now a
+    led-by a is = ap (λ (b : Bool). cond b 0 (goes now a)) is
+
+    beside : (a : ℕ) → in_regions a ≡ false → goes now a ≡ a
+    beside a is = ap (λ (b : Bool). cond b (now_at (now.raw a).header) a) is
+
+    inside-goes : (a : ℕ) → in_regions a ≡ true → goes now a ≡ now_at (now.raw a).header
+    inside-goes a is = ap (λ (b : Bool). cond b (now_at (now.raw a).header) a) is
+
+    dead-goes : (a : ℕ) → raws.has a ≡ true → is_mortal h.rows a ≡ true → (IsReached h raws a → ⊥) → go a ≡ 0
+    dead-goes a has mortal unreached = elim (mortal-cases h.rows a mortal) [
+      | inl inside ↦
+          let same : now.raw a ≡ (cleared h m t raws plan can ok).raw a = run.moves.moves.same a has (λ i below e.
+              unreached (subst (λ (n : ℕ). IsReached h raws n) e ((ok.young.only (at_of plan.young i)).0 (get-in plan.young i below)).1)) in
+          led-by a (young-stays a inside) ∙ inside-goes a inside ∙ ap (λ (r : Raw). now_at r.header) same ∙ can.unmoved a has inside
+      | inr waiting ↦
+          let quiet : is_member plan.stays waiting.row.slot ≡ false = no (is_member plan.stays waiting.row.slot) (λ is. elim ((ok.stays.test waiting.row waiting.is_in).0 is) [
+            | inl promoted ↦ clash waiting.row.promoted promoted (flip waiting.row.promoted waiting.waits_is)
+            | inr r ↦ unreached (subst (λ (n : ℕ). IsReached h raws n) waiting.at_is r)
+          ]) in
+          let gone' : is_lost h.rows plan.stays a ≡ true = and_from (waits_in (row_at h.rows a)) (not (is_member plan.stays (slot_in a))) (ap waits_in waiting.found ∙ waiting.waits_is) (ap (λ (n : ℕ). not (is_member plan.stays n)) (slot-is a waiting) ∙ ap not quiet) in
+          ap (λ (b : Bool). cond b 0 (goes now a)) gone'
+    ]
+
+    leads : Leads h raws plan.young tos go
+    leads = record {
+      listed = ok.young;
+      length_is = same-length h m t raws plan can ok m1 run.clears run.sound1 m2 s2 tos run.moves run.regions2.1 run.outside run.only2;
+      moves = λ i below.
+          let it = young-reached h m t raws plan can ok i below in
+          led-by (at_of plan.young i) (young-stays (at_of plan.young i) it.1) ∙ inside-goes (at_of plan.young i) it.1 ∙ ap (λ (r : Raw). now_at r.header) (run.moves.moves.forwarded i below);
+      stays = λ a is. let parts = or_parts (in_regions a) (waits_in (row_at h.rows a)) is in led-by a (ap (λ (b : Bool). b && not (is_member plan.stays (slot_in a))) parts.1) ∙ beside a parts.0;
+      large = λ a out r. led-by a (reached-stays a r) ∙ beside a out;
+      dead = dead-goes;
+    }
+
+    listed-row : (row : LargeRow) → (list_any (nat_eq (slot_base row.slot)) (addresses plan.large) ≡ true) → IsReached h raws (slot_base row.slot)
+    listed-row row is =
+        let it = any-at (nat_eq (slot_base row.slot)) (addresses plan.large) is in
+        subst (λ (n : ℕ). IsReached h raws n) (sym (eqb-true (slot_base row.slot) it.0 it.2)) ((ok.large.only it.0).0 it.1).1
+
+    slot-beside : (slot : ℕ) → in_regions (slot_base slot) ≡ false
+    slot-beside slot = no (in_regions (slot_base slot)) (λ is.
+        let parts = and_parts (nat_le 262144 (page_of (slot_base slot))) (nat_lt (page_of (slot_base slot)) 327680) is in
+        let below = ltb-true (page_of (slot_base slot)) 327680 parts.1 in
+        omega (arith, below))
+
+    rows-left : AreRowsLeft h raws rows
+    rows-left = record {
+      stays = stays_by plan.large;
+      test = λ row there.
+          (λ is. elim (or_cases row.promoted (list_any (nat_eq (slot_base row.slot)) (addresses plan.large)) is) [ inl promoted ↦ inl promoted | inr listed ↦ inr (listed-row row listed) ],
+           λ either. elim either [
+             | inl promoted ↦ or_left row.promoted (list_any (nat_eq (slot_base row.slot)) (addresses plan.large)) promoted
+             | inr r ↦ or_right row.promoted (list_any (nat_eq (slot_base row.slot)) (addresses plan.large))
+                 (any-of (nat_eq (slot_base row.slot)) (addresses plan.large) (slot_base row.slot) ((ok.large.only (slot_base row.slot)).1 (slot-beside row.slot, r)) (eq-eqb (slot_base row.slot) (slot_base row.slot) refl))
+           ]);
+      rows_are = run.rows_are;
+    }
+
+    -- a root leads to where its object is
+    root-leads : (a : ℕ) → Contains (addresses h.roots) a → go a ≡ goes now a
+    root-leads a c = led-by a (no (is_lost h.rows plan.stays a) (λ is.
+        let lost = lost-row a is in
+        let has = (can.roots a c).large (row-large h.rows a can.large.rows lost.0) in
+        let node : is_node h.rows raws a ≡ true = and_from (raws.has a) (is_mortal h.rows a) has (or_right (in_regions a) (waits_in (row_at h.rows a)) (ap waits_in lost.0.found ∙ lost.0.waits_is)) in
+        clash (is_lost h.rows plan.stays a) is (reached-stays a (reached-start h.classes h.rows raws (starts_of h.roots h.slots) a (Contains-append_left (addresses h.roots) _ a c) node))))
+
+    roots-lead : addresses roots ≡ map go (addresses h.roots)
+    roots-lead = ap (λ (xs : List Addr). addresses xs) run.roots_are ∙ each h.roots (λ a c. c)
+      where
+        each : (xs : List Addr) → ((a : ℕ) → Contains (addresses xs) a → Contains (addresses h.roots) a) → addresses (map (gone_to now) xs) ≡ map go (addresses xs)
+        each [] inside = refl
+        each (x ∷ xs) inside =
+            ap (λ (n : ℕ). n ∷ addresses (map (gone_to now) xs)) (sym (root-leads x.0 (inside x.0 (in-first x.0 (addresses xs)))))
+            ∙ ap (λ (ns : List ℕ). go x.0 ∷ ns) (each xs (λ a c. inside a (in-rest x.0 (addresses xs) a c)))
+
+    -- the objects that are left: those of the regions in use, and the others that aren't lost
+    abbrev left-test : ℕ → Bool
+    left-test a = if in_regions a then list_any (λ (b : Addr). nat_eq b.0 a) tos else not (is_lost h.rows plan.stays a)
+
+    abbrev left-raws : Raws
+    left-raws = among (turned_where now (is_turned h.classes now (record { young = tos; large = plan.large; slots = plan.turned }))) left-test
+
+    are-left : AreLeft h raws left-raws go
+    are-left = ?
+
+    left-held : HoldsRegions h.classes m4 t (lists_of s4) left-raws
+    left-held = ?
+
     pub collected : IsCollected h m4 t raws s4 rows roots
-    collected = ?
+    collected = record {
+      go = go;
+      young = plan.young;
+      moved = tos;
+      now = left-raws;
+      leads = leads;
+      left = are-left;
+      held = left-held;
+      packed = subst (λ (in_use : List Row). PacksAt in_use (sizes_at h.classes raws plan.young) tos) (sym run.regions4.0) run.moves.packed;
+      fewer = let used = run.moves.packed.pack.used in let same = ap length run.regions4.0 in let room = ok.room in omega (arith, used, same, room);
+      objects = run.regions4.2 ∙ run.regions2.2 ∙ sym leads.length_is;
+      no_from = run.no_from;
+      count = run.regions4.1 ∙ run.regions2.0;
+      rows_left = rows-left;
+      large_pages = run.large_pages;
+      roots_lead = roots-lead;
+    }
 
     abbrev kept : Keeps m m1 t (is_page_of (gone h m t raws plan can ok))
     kept = kept1 h m t raws plan can ok m1 run.clears run.sound1

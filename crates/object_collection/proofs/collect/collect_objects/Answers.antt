@@ -29,5 +29,5 @@ pub returns-clause-reads : goal.returns-clause-reads
 returns-clause-reads c =
     let h : HeapState = state_of c.args.classes.now c.args.regions.now c.args.larges.now c.args.roots.now c.args.slots.now in
     let raws : Raws = c.requires.0 in
-    rose-reserved _ _ _ (4 * length c.args.slots.now) c.plan_collection.ensures.rest
+    rose-reserved c.args.frames.now c.plan_collection.new.frames c.carry_out.new.frames (4 * length c.args.slots.now) c.plan_collection.ensures.rest
     (c.carry_out.ensures.reads c.args.slots.now raws (can-reserved h _ _ c.args.t.0 raws c.plan_collection.ensures.rest c.in_ok-plan.ensures.sound c.requires.1) (c.in_ok-plan.ensures.plan raws c.requires.1))
