@@ -110,6 +110,13 @@ flip : (b : Bool) → not b ≡ true → b ≡ false
 flip true e = sym e
 flip false e = refl
 
+-- no slot lies in the regions
+pub slot-outside : (slot : ℕ) → in_regions (slot_base slot) ≡ false
+slot-outside slot = no (in_regions (slot_base slot)) (λ is.
+    let parts = and_parts (nat_le 262144 (page_of (slot_base slot))) (nat_lt (page_of (slot_base slot)) 327680) is in
+    let below = ltb-true (page_of (slot_base slot)) 327680 parts.1 in
+    omega (arith, below))
+
 -- a slot of a waiting object lies in the large window
 row-large : (rows : List LargeRow) (a : ℕ) → AreRows rows → IsWaiting rows a → in_large a ≡ true
 row-large rows a are it =
@@ -228,12 +235,6 @@ module _ (h : HeapState) (m : Memory) (t : ℕ) (raws : Raws) (plan : Listed) (c
         let it = any-at (nat_eq (slot_base row.slot)) (addresses plan.large) is in
         subst (λ (n : ℕ). IsReached h raws n) (sym (eqb-true (slot_base row.slot) it.0 it.2)) ((ok.large.only it.0).0 it.1).1
 
-    slot-beside : (slot : ℕ) → in_regions (slot_base slot) ≡ false
-    slot-beside slot = no (in_regions (slot_base slot)) (λ is.
-        let parts = and_parts (nat_le 262144 (page_of (slot_base slot))) (nat_lt (page_of (slot_base slot)) 327680) is in
-        let below = ltb-true (page_of (slot_base slot)) 327680 parts.1 in
-        omega (arith, below))
-
     rows-left : AreRowsLeft h raws rows
     rows-left = record {
       stays = stays_by plan.large;
@@ -242,7 +243,7 @@ module _ (h : HeapState) (m : Memory) (t : ℕ) (raws : Raws) (plan : Listed) (c
            λ either. elim either [
              | inl promoted ↦ or_left row.promoted (list_any (nat_eq (slot_base row.slot)) (addresses plan.large)) promoted
              | inr r ↦ or_right row.promoted (list_any (nat_eq (slot_base row.slot)) (addresses plan.large))
-                 (any-of (nat_eq (slot_base row.slot)) (addresses plan.large) (slot_base row.slot) ((ok.large.only (slot_base row.slot)).1 (slot-beside row.slot, r)) (eq-eqb (slot_base row.slot) (slot_base row.slot) refl))
+                 (any-of (nat_eq (slot_base row.slot)) (addresses plan.large) (slot_base row.slot) ((ok.large.only (slot_base row.slot)).1 (slot-outside row.slot, r)) (eq-eqb (slot_base row.slot) (slot_base row.slot) refl))
            ]);
       rows_are = run.rows_are;
     }

@@ -13,3 +13,4 @@ pub mod Running
 pub mod Sizes
 pub mod Final
 pub mod Reserved
+pub mod Planning
