@@ -1,6 +1,6 @@
 -- What holds after a collection.
-use Rattle.std.proofs.Common.{◌≡◌, ◌≢◌, ◌∙◌, ◌⊎◌, ◌||◌, ◌&&◌, ℕ, ◌+◌, ◌*◌, ◌<◌, ◌≤◌, inl, inr, Bool, true, false, cond, List, [], ◌∷◌, ◌++◌, Option, filter, length, map, nat_eq, refl, sym, ap, subst, arith}
-use Rattle.std.specs.Prelude.{if◌then◌else◌, IsTrue, count_by, is_some, nat_le, nat_lt, not}
+use Rattle.std.proofs.Common.{◌≡◌, ◌≢◌, ◌∙◌, ◌⊎◌, ◌||◌, ◌&&◌, ℕ, ◌+◌, ◌*◌, ◌<◌, ◌≤◌, inl, inr, Bool, true, false, cond, List, [], ◌∷◌, ◌++◌, Option, Some, None, pos, filter, length, map, nat_eq, refl, sym, ap, subst, arith}
+use Rattle.std.specs.Prelude.{◌↔◌, ◌^◌, if◌then◌else◌, ℤ, IsTrue, count_by, is_some, nat_le, nat_lt, not}
 use Rattle.std.specs.List.{list_any, AllByRecursion, Contains}
 use Rattle.std.specs.List.{IsDistinct}
 use Rattle.std.proofs.lemmas.Cmp.{nat_eq_equiv}
@@ -8,7 +8,7 @@ use Rattle.std.proofs.lemmas.List.Sums.{length-filter}
 use Rattle.std.proofs.lemmas.Map.Made.{is_member-Decides, length-le_from_is_member}
 use borrow.Author.Tests.{ltb-true}
 use Rattle.model_numbers.specs.Numbers.{large_slot_count, region_base}
-use Rattle.live_objects.specs.Reach.{in_large, is_mortal, is_node, starts_of, waits_in}
+use Rattle.live_objects.specs.Reach.{in_large, is_mortal, is_node, starts_of, waits_in, IsFound}
 use Rattle.live_objects.proofs.YoungLemmas.{in-first, in-rest, map-in}
 use Rattle.std.proofs.lemmas.Bool.{and_from, and_parts, eq-eqb, eqb-true, or_cases, or_from, or_left, or_parts, or_right}
 use Rattle.std.proofs.lemmas.List.Elements.{Contains-append_left}
@@ -34,7 +34,18 @@ use Rattle.object_view.specs.Changes.{reads_after_all}
 use Rattle.object_view.specs.Seen.{RoseBy}
 use Rattle.raw_objects.specs.Keeps.{Keeps}
 use Rattle.raw_objects.specs.Raws.{among, HoldsRaws, Raw, Raws}
-use Rattle.raw_objects.specs.References.{goes, in_regions, now_at, turned_where}
+use Rattle.raw_objects.specs.References.{goes, in_regions, now_at, turned, turned_where}
+use Rattle.raw_objects.specs.References.{address_in as address_of}
+use Rattle.class_layout.specs.declared.kind.Kind.TheVariants.{Ref}
+use Rattle.class_layout.specs.declared.kind.FieldAt.{FieldAt}
+use Rattle.class_layout.specs.Kinds.{is_ref}
+use Rattle.class_layout.specs.Placing.{IsIn}
+use Rattle.graph_pages.specs.Collected.{turned_by}
+use Rattle.heap_graph.specs.Places.{places_of}
+use Rattle.heap_graph.proofs.Places.{bytes-low, one-place}
+use Rattle.object_view.proofs.Laid.{place-within}
+use Rattle.large_objects.proofs.TableLemmas.{row-spot}
+use Rattle.std.proofs.lemmas.Bool.{cases_order}
 use Rattle.region_space.specs.Space.{filled, lists_of, IsSpace, Space}
 use Rattle.region_space.specs.Space.{HasPages as HasRegionPages}
 use Rattle.region_space.specs.Space.{holds_page as region_page}
@@ -45,14 +56,14 @@ use Rattle.live_objects.specs.Live.{addresses}
 use Rattle.weak_refs.specs.Weak.{is_dead, is_page_of, ClearsSlots}
 use Rattle.object_moves.specs.Copies.{at_of, moved, sizes_at, HoldsRegions, KeepsOutside, PacksAt}
 use Rattle.object_moves.specs.Turns.{gone_to}
-use Rattle.object_collection.specs.Collects.{may_change, AreLeft, AreRowsLeft, CanCollect, HeapState, IsCollected, IsReached, Leads, LeavesPages}
-use Rattle.object_collection.specs.Phases.{goes_by, is_lost, is_turned, leads_to, slot_in, stays_by, stays_in, HaveMoved, IsPlan, Listed, LosesPages}
+use Rattle.object_collection.specs.Collects.{may_change, AreLeft, AreRowsLeft, CanCollect, HeapState, IsCollected, IsKept, IsReached, Leads, LeavesPages}
+use Rattle.object_collection.specs.Phases.{goes_by, is_lost, is_turned, leads_to, slot_in, stays_by, stays_in, HaveMoved, IsPlan, Listed, LosesPages, Turning}
 use Rattle.object_collection.proofs.Marked.{filter-fewer, gone-waits}
 use Rattle.object_collection.proofs.Dropping.{dead-window, mapped-alone}
-use Rattle.object_collection.proofs.Facts.{all-at, any-at, any-of, filter-from, may-large, may-young, mortal-cases, reached-has, waiting-row, IsWaiting}
-use Rattle.object_collection.proofs.Nulled.{slot-in, weak-page}
+use Rattle.object_collection.proofs.Facts.{all-at, any-at, any-of, filter-from, may-large, may-young, mortal-cases, reached-has, row-in, waiting-row, IsWaiting}
+use Rattle.object_collection.proofs.Nulled.{slot-in, weak-page, weak-reference}
 use Rattle.object_collection.proofs.Steps.{any-fewer}
-use Rattle.object_collection.proofs.Running.{cleared, contains-in, get-in, gone, kept1, only-three, regions-high, same-length, young-reached}
+use Rattle.object_collection.proofs.Running.{cleared, contains-in, get-in, gone, kept1, lost-large, only-three, regions-high, same-length, young-reached}
 
 no : (b : Bool) → (b ≡ true → ⊥) → b ≡ false
 no true fails = absurd (fails refl)
@@ -272,8 +283,96 @@ module _ (h : HeapState) (m : Memory) (t : ℕ) (raws : Raws) (plan : Listed) (c
     abbrev left-raws : Raws
     left-raws = among (turned_where now (is_turned h.classes now (record { young = tos; large = plan.large; slots = plan.turned }))) left-test
 
+    abbrev turning : Turning
+    turning = record { young = tos; large = plan.large; slots = plan.turned }
+
+    abbrev tests : ℕ → Bool
+    tests = is_turned h.classes now turning
+
+    abbrev null-at : ℕ → FieldAt → Bool
+    null-at a p = list_any (λ (b : ℕ). nat_eq b (a + p.offset)) (gone h m t raws plan can ok)
+
+    -- a target that doesn't stay leads to none
+    unstaying : (n : ℕ) → IsFound raws n → stays_in plan.stays n ≡ false → is_lost h.rows plan.stays n ≡ true
+    unstaying n found lost =
+        let large = lost-large plan.stays n lost in
+        let quiet : is_member plan.stays (slot_in n) ≡ false = (or_parts (not (in_large n)) (is_member plan.stays (slot_in n)) lost).1 in
+        by (row_at h.rows n) refl (can.large.only n (found.large large) large) quiet
+      where
+        by : (o : Option LargeRow) → row_at h.rows n ≡ o → IsTrue (is_some (row_at h.rows n)) → is_member plan.stays (slot_in n) ≡ false → is_lost h.rows plan.stays n ≡ true
+        by None e some quiet = absurd (clash (is_some (row_at h.rows n)) some (ap (λ (o : Option LargeRow). is_some o) e))
+        by (Some row) e some quiet =
+            let at : slot_base row.slot ≡ n = row-spot h.rows n row e in
+            let slot : slot_in n ≡ row.slot = omega (arith, at) in
+            let promoted : row.promoted ≡ false = no row.promoted (λ is. clash (is_member plan.stays (slot_in n)) (ap (is_member plan.stays) slot ∙ (ok.stays.test row (row-in h.rows n row e)).1 (inl is)) quiet) in
+            and_from (waits_in (row_at h.rows n)) (not (is_member plan.stays (slot_in n))) (ap waits_in e ∙ ap not promoted) (ap not quiet)
+
+    -- a kept object's reference to what is lost was cleared
+    lost-cleared : (a : ℕ) (p : FieldAt) (n : ℕ) → IsKept h raws a → IsIn p (places_of h.classes (raws.raw a).shape) → p.kind ≡ Ref → (raws.raw a).values p ≡ pos n → n < 2 ^ 32 → IsFound raws n
+        → is_lost h.rows plan.stays n ≡ true → null-at a p ≡ true
+    lost-cleared a p n kept' there kind value small found lost' = ?
+
+    -- and one that isn't turned leads outside the regions
+    unturned-outside : (a : ℕ) (p : FieldAt) (n : ℕ) → IsKept h raws a → IsIn p (places_of h.classes (raws.raw a).shape) → p.kind ≡ Ref → (raws.raw a).values p ≡ pos n → tests (go a + p.offset) ≡ false → in_regions n ≡ false
+    unturned-outside a p n kept' there kind value off = ?
+
+    -- only references were cleared
+    plain-kept : (a : ℕ) (p : FieldAt) → raws.has a ≡ true → IsIn p (places_of h.classes (raws.raw a).shape) → is_ref p.kind ≡ false → null-at a p ≡ false
+    plain-kept a p has there plain = no (null-at a p) (λ is.
+        let it = any-at (λ (b : ℕ). nat_eq b (a + p.offset)) (gone h m t raws plan can ok) is in
+        let weak = weak-reference h m t raws plan can ok it.0 (filter-from (is_dead (stays_in plan.stays) (view_of m t)) (addresses plan.weak) it.0 it.1).0 in
+        let at : weak.object + weak.place.offset ≡ a + p.offset = sym weak.at_is ∙ eqb-true it.0 (a + p.offset) it.2 in
+        let theirs = place-within h.classes (raws.raw weak.object).shape Ref weak.place.offset weak.place (record { is_in = weak.is_in; kind_is = weak.kind_is; offset_is = refl }) in
+        let mine = place-within h.classes (raws.raw a).shape p.kind p.offset p (record { is_in = there; kind_is = refl; offset_is = refl }) in
+        let low = bytes-low p.kind in
+        elim (cases_order weak.object a) [
+          | inl same ↦
+              let place : weak.place ≡ p = one-place h.classes (raws.raw a).shape weak.place p (subst (λ (o : ℕ). IsIn weak.place (places_of h.classes (raws.raw o).shape)) same weak.is_in) there (omega (arith, at, same)) in
+              clash (is_ref p.kind) (ap is_ref (ap (λ (q : FieldAt). q.kind) (sym place) ∙ weak.kind_is)) plain
+          | inr order ↦ elim order [
+            | inl before ↦ let apart = can.held.holds.apart weak.object a weak.has has before in omega (arith, apart, at, theirs.2)
+            | inr behind ↦ let apart = can.held.holds.apart a weak.object has weak.has behind in omega (arith, apart, at, mine.2, low)
+          ]
+        ])
+
+    -- the value at a place of a kept object is the old one, led to where it goes
+    led-value : (a : ℕ) (p : FieldAt) → IsKept h raws a → IsIn p (places_of h.classes (raws.raw a).shape)
+        → cond (tests (go a + p.offset)) (turned now p (cond (null-at a p) (pos 0) ((raws.raw a).values p))) (cond (null-at a p) (pos 0) ((raws.raw a).values p)) ≡ turned_by go p ((raws.raw a).values p)
+    led-value a p kept' there = by (is_ref p.kind) refl
+      where
+        same : (b : Bool) (z : ℤ) → cond b z z ≡ z
+        same true z = refl
+        same false z = refl
+
+        by : (b : Bool) → is_ref p.kind ≡ b
+            → cond (tests (go a + p.offset)) (turned now p (cond (null-at a p) (pos 0) ((raws.raw a).values p))) (cond (null-at a p) (pos 0) ((raws.raw a).values p)) ≡ turned_by go p ((raws.raw a).values p)
+        by false plain =
+            let v : ℤ = (raws.raw a).values p in
+            let quiet = plain-kept a p kept'.has there plain in
+            ap (λ (b : Bool). cond (tests (go a + p.offset)) (cond b (pos (goes now (address_of (cond (null-at a p) (pos 0) v)))) (cond (null-at a p) (pos 0) v)) (cond (null-at a p) (pos 0) v)) plain
+            ∙ same (tests (go a + p.offset)) (cond (null-at a p) (pos 0) v)
+            ∙ ap (λ (b : Bool). cond b (pos 0) v) quiet
+            ∙ sym (ap (λ (b : Bool). cond b (pos (go (address_of v))) v) plain)
+        by true ref = ?
+
+    copy-raw : (a : ℕ) → IsKept h raws a → now.raw (go a) ≡ (cleared h m t raws plan can ok).raw a
+    copy-raw a kept' = ?
+
+    left-has : (b : ℕ) → (left-raws.has b ≡ true) ↔ ((a : ℕ) × IsKept h raws a × (go a ≡ b))
+    left-has b = ?
+
     are-left : AreLeft h raws left-raws go
-    are-left = ?
+    are-left = record {
+      has = left-has;
+      same = λ a kept'.
+          let raw = copy-raw a kept' in
+          record {
+            shape = ap (λ (r : Raw). r.shape) raw;
+            header = ap (λ (r : Raw). r.header) raw;
+            values = λ p there.
+                ap (λ (r : Raw). cond (tests (go a + p.offset)) (turned now p (r.values p)) (r.values p)) raw ∙ led-value a p kept' there;
+          };
+    }
 
     left-held : HoldsRegions h.classes m4 t (lists_of s4) left-raws
     left-held = ?
