@@ -1,3 +1,9 @@
+pub mod Steps
+pub mod Facts
+pub mod Turnings
+pub mod Nulled
+pub mod Marked
+pub mod Dropping
 pub mod Growing
 pub mod PageLemmas
 pub mod Room
