@@ -7,7 +7,7 @@ use Rattle.std.proofs.lemmas.List.{append-nil}
 use Rattle.std.proofs.lemmas.List.Elements.{Contains-append_cases}
 use Rattle.bit_set.specs.Bits.{is_member, Bits}
 use Rattle.bit_set.specs.Bits.{room as bits_room}
-use Rattle.model_numbers.specs.Numbers.{large_slot_count}
+use Rattle.model_numbers.specs.Numbers.{large_slot_count, region_bytes, region_count}
 use Rattle.page_tables.specs.declared.address.Addr.{Addr}
 use Rattle.cow_pages.specs.Memory.{Memory}
 use Rattle.cow_pages.specs.View.{view_of}
@@ -23,15 +23,30 @@ use Rattle.large_objects.specs.Rows.{slot_base}
 use Rattle.live_objects.specs.Live.{addresses, HasLarge, ListsYoung}
 use Rattle.live_objects.specs.Reach.{is_mortal, is_strong, starts_of, CanMark, IsFound}
 use Rattle.live_objects.proofs.YoungLemmas.{map-from}
-use Rattle.object_moves.specs.Copies.{sizes_at}
+use Rattle.object_moves.specs.Copies.{at_of, sizes_at, IsYoungAt}
+use Rattle.heap_graph.specs.Packing.{end_from}
+use Rattle.heap_graph.specs.Sizes.{parts_for}
 use Rattle.object_collection.specs.Collects.{CanCollect, HeapState, IsReached}
 use Rattle.object_collection.specs.Listed.{leads_young, AreSlotsOf, AreWeak, KnowsLive}
 use Rattle.object_collection.specs.Phases.{AreStaying, IsPlan, Listed, ListsLarge}
 use Rattle.object_collection.proofs.Facts.{all-at, filter-from, mortal-cases, reached-has}
 use Rattle.object_collection.proofs.Final.{slot-outside}
-use Rattle.object_collection.proofs.Room.{few, live-once}
+use Rattle.object_collection.proofs.Room.{few, live-once, live-regions, live-young}
 use Rattle.object_collection.proofs.Room.{room as regions-room}
 use Rattle.object_collection.proofs.Running.{contains-in}
+
+-- a collection of unchanged memory
+pub knows-still : (h : HeapState) (m new : Memory) (t : ℕ) (raws : Raws) (young : List Addr) (live : Bits) → new ≡ m → KnowsLive h m t raws young live → KnowsLive h new t raws young live
+knows-still h m new t raws young live same knows = subst (λ (x : Memory). KnowsLive h x t raws young live) (sym same) knows
+
+-- the objects of the regions, as a slice
+pub young-counted : (h : HeapState) (m : Memory) (t : ℕ) (raws : Raws) (young seen : List Addr) (live : Bits) → seen ≡ young → KnowsLive h m t raws young live
+    → (i : ℕ) → i < length seen → IsYoungAt h.classes (view_of m t) raws (at_of seen i)
+young-counted h m t raws young seen live same knows = subst (λ (xs : List Addr). (i : ℕ) → i < length xs → IsYoungAt h.classes (view_of m t) raws (at_of xs i)) (sym same) (live-young h m t raws young live knows)
+
+pub few-regions : (h : HeapState) (m : Memory) (t : ℕ) (raws : Raws) (young seen : List Addr) (live : Bits) → seen ≡ young → KnowsLive h m t raws young live
+    → parts_for region_bytes (end_from 0 (sizes_at h.classes raws seen)) ≤ region_count
+few-regions h m t raws young seen live same knows = subst (λ (xs : List Addr). parts_for region_bytes (end_from 0 (sizes_at h.classes raws xs)) ≤ region_count) (sym same) (live-regions h m t raws young live knows)
 
 module _ (h : HeapState) (m : Memory) (t : ℕ) (raws : Raws) (can : CanCollect h m t raws) where
   -- what a slot holds is found
