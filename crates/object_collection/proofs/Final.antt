@@ -8,14 +8,14 @@ use Rattle.std.proofs.lemmas.List.Sums.{length-filter}
 use Rattle.std.proofs.lemmas.Map.Made.{is_member-Decides, length-le_from_is_member}
 use borrow.Author.Tests.{ltb-true}
 use Rattle.model_numbers.specs.Numbers.{large_slot_count, region_base}
-use Rattle.live_objects.specs.Reach.{in_large, is_mortal, is_node, starts_of, waits_in, IsFound}
-use Rattle.live_objects.proofs.YoungLemmas.{in-first, in-rest, map-in}
+use Rattle.live_objects.specs.Reach.{in_large, is_mortal, is_node, is_strong, starts_of, waits_in, IsFound}
+use Rattle.live_objects.proofs.YoungLemmas.{in-first, in-rest, map-from, map-in}
 use Rattle.std.proofs.lemmas.Bool.{and_from, and_parts, eq-eqb, eqb-true, or_cases, or_from, or_left, or_parts, or_right}
-use Rattle.std.proofs.lemmas.List.Elements.{Contains-append_left}
+use Rattle.std.proofs.lemmas.List.Elements.{Contains-append_left, Contains-append_right}
 use Rattle.bit_set.specs.Bits.{is_member}
 use Rattle.region_space.proofs.PageLemmas.{inside}
-use Rattle.live_objects.proofs.ReachLemmas.{reached-start}
-use Rattle.std.proofs.lemmas.List.{append-nil, length-map}
+use Rattle.live_objects.proofs.ReachLemmas.{reached-held, reached-start}
+use Rattle.std.proofs.lemmas.List.{append-nil, get_or-map, get_or_default, length-map}
 use Rattle.std.proofs.lemmas.List.Folds.{list_any-append}
 use Rattle.page_tables.specs.declared.address.Window.TheVariants.{Image, Regions, Zygote}
 use Rattle.page_tables.specs.Address.{is_immune, is_in, page_of}
@@ -28,7 +28,7 @@ use Rattle.large_objects.proofs.PageLemmas.{one-side}
 use Rattle.page_tables.specs.declared.address.Addr.{Addr}
 use Rattle.cow_pages.specs.Memory.{flag_of, is_mapped, page_at, HasOneSharer, IsSound, Memory, Page}
 use Rattle.cow_pages.specs.Only.{OnlyTable}
-use Rattle.cow_pages.specs.View.{view_of}
+use Rattle.cow_pages.specs.View.{u32_at, view_of}
 use Rattle.cow_pages.proofs.OnlyLemmas.{only-trans}
 use Rattle.object_view.specs.Changes.{reads_after_all}
 use Rattle.object_view.specs.Seen.{RoseBy}
@@ -45,7 +45,7 @@ use Rattle.heap_graph.specs.Places.{places_of}
 use Rattle.heap_graph.proofs.Places.{bytes-low, one-place}
 use Rattle.object_view.proofs.Laid.{place-within}
 use Rattle.large_objects.proofs.TableLemmas.{row-spot}
-use Rattle.std.proofs.lemmas.Bool.{cases_order}
+use Rattle.std.proofs.lemmas.Bool.{cases_order, ne_eqb}
 use Rattle.region_space.specs.Space.{filled, lists_of, IsSpace, Space}
 use Rattle.region_space.specs.Space.{HasPages as HasRegionPages}
 use Rattle.region_space.specs.Space.{holds_page as region_page}
@@ -55,15 +55,21 @@ use Rattle.large_objects.specs.Rows.{row_at, slot_base, waits, AreRows}
 use Rattle.live_objects.specs.Live.{addresses}
 use Rattle.weak_refs.specs.Weak.{is_dead, is_page_of, ClearsSlots}
 use Rattle.object_moves.specs.Copies.{at_of, moved, sizes_at, HoldsRegions, KeepsOutside, PacksAt}
-use Rattle.object_moves.specs.Turns.{gone_to}
+use Rattle.object_moves.specs.Turns.{gone_to, is_reference_at, is_reference_of, is_slot_of}
+use Rattle.object_moves.proofs.Many.{place-reference}
+use Rattle.object_collection.specs.Listed.{leads_young}
+use Rattle.object_view.specs.Values.{is_value}
+use Rattle.object_view.proofs.Lookups.{address-fits}
+use Rattle.object_view.proofs.Stores.{loaded}
+use Rattle.object_view.proofs.Laid.{ref-kind}
 use Rattle.object_collection.specs.Collects.{may_change, AreLeft, AreRowsLeft, CanCollect, HeapState, IsCollected, IsKept, IsReached, Leads, LeavesPages}
 use Rattle.object_collection.specs.Phases.{goes_by, is_lost, is_turned, leads_to, slot_in, stays_by, stays_in, HaveMoved, IsPlan, Listed, LosesPages, Turning}
 use Rattle.object_collection.proofs.Marked.{filter-fewer, gone-waits}
 use Rattle.object_collection.proofs.Dropping.{dead-window, mapped-alone}
-use Rattle.object_collection.proofs.Facts.{all-at, any-at, any-of, filter-from, may-large, may-young, mortal-cases, reached-has, row-in, waiting-row, IsWaiting}
+use Rattle.object_collection.proofs.Facts.{all-at, any-at, any-of, filter-from, filter-in, may-large, may-young, mortal-cases, reached-has, row-in, waiting-row, IsWaiting}
 use Rattle.object_collection.proofs.Nulled.{slot-in, weak-page, weak-reference}
 use Rattle.object_collection.proofs.Steps.{any-fewer}
-use Rattle.object_collection.proofs.Running.{cleared, contains-in, get-in, gone, kept1, lost-large, only-three, regions-high, same-length, young-reached}
+use Rattle.object_collection.proofs.Running.{cleared, contains-in, get-in, gone, gone-lost, stays-raw, copy-has, copy-inside, kept1, lost-large, only-three, regions-high, same-length, young-reached}
 
 no : (b : Bool) → (b ≡ true → ⊥) → b ≡ false
 no true fails = absurd (fails refl)
@@ -129,6 +135,12 @@ slot-outside slot = no (in_regions (slot_base slot)) (λ is.
     omega (arith, below))
 
 -- a slot of a waiting object lies in the large window
+index-of : (ats : List Addr) (a : ℕ) → Contains (addresses ats) a → (i : ℕ) × (i < length ats) × (at_of ats i ≡ a)
+index-of ats a c =
+    let n = length-map ats (λ (x : Addr). x.0) in
+    let below : c.0 < length ats = omega (arith, c.1, n) in
+    (c.0, below, sym (get_or-map (λ (x : Addr). x.0) ats c.0 (record { 0 = 0 }) 0 below) ∙ get_or_default (addresses ats) c.0 0 a c.1 ∙ c.2)
+
 row-large : (rows : List LargeRow) (a : ℕ) → AreRows rows → IsWaiting rows a → in_large a ≡ true
 row-large rows a are it =
     let within = all-at (λ (row : LargeRow). row.slot < large_slot_count) rows it.row are.within it.is_in in
@@ -307,14 +319,107 @@ module _ (h : HeapState) (m : Memory) (t : ℕ) (raws : Raws) (plan : Listed) (c
             let promoted : row.promoted ≡ false = no row.promoted (λ is. clash (is_member plan.stays (slot_in n)) (ap (is_member plan.stays) slot ∙ (ok.stays.test row (row-in h.rows n row e)).1 (inl is)) quiet) in
             and_from (waits_in (row_at h.rows n)) (not (is_member plan.stays (slot_in n))) (ap waits_in e ∙ ap not promoted) (ap not quiet)
 
+    -- where a kept object is
+    kept-cases : (a : ℕ) → IsKept h raws a → ((i : ℕ) × (i < length plan.young) × (at_of plan.young i ≡ a) × (go a ≡ at_of tos i)) ⊎ ((in_regions a ≡ false) × (go a ≡ a) × (is_lost h.rows plan.stays a ≡ false))
+    kept-cases a k = by (in_regions a) refl
+      where
+        by : (b : Bool) → in_regions a ≡ b → ((i : ℕ) × (i < length plan.young) × (at_of plan.young i ≡ a) × (go a ≡ at_of tos i)) ⊎ ((in_regions a ≡ false) × (go a ≡ a) × (is_lost h.rows plan.stays a ≡ false))
+        by true inside = elim k.stays [
+          | inl immortal ↦ absurd (clash (in_regions a) inside (or_parts (in_regions a) (waits_in (row_at h.rows a)) immortal).0)
+          | inr r ↦ let it = index-of plan.young a ((ok.young.only a).1 (inside, r)) in inl (it.0, it.1, it.2, ap go (sym it.2) ∙ leads.moves it.0 it.1)
+        ]
+        by false out = elim k.stays [
+          | inl immortal ↦ inr (out, leads.stays a immortal, ap (λ (b : Bool). b && not (is_member plan.stays (slot_in a))) (or_parts (in_regions a) (waits_in (row_at h.rows a)) immortal).1)
+          | inr r ↦ inr (out, leads.large a out r, reached-stays a r)
+        ]
+
+    -- the slot of an immune object's reference to an object that isn't immune
+    slot-listed : (a : ℕ) (p : FieldAt) (n : ℕ) → raws.has a ≡ true → is_mortal h.rows a ≡ false → IsIn p (places_of h.classes (raws.raw a).shape) → p.kind ≡ Ref → (raws.raw a).values p ≡ pos n → is_mortal h.rows n ≡ true
+        → IsIn (record { at = record { 0 = a + p.offset }; target = record { 0 = n }; weak = p.weak }) h.slots
+    slot-listed a p n has immortal there kind value mortal = (can.slots.exact (record { at = record { 0 = a + p.offset }; target = record { 0 = n }; weak = p.weak })).1
+        (record { object = a; place = p; has = has; immune = immortal; is_in = there; kind_is = kind; at_is = refl; target_is = sym value; weak_is = refl; outside = mortal })
+
     -- a kept object's reference to what is lost was cleared
+    lost-listed : (a : ℕ) (p : FieldAt) (n : ℕ) → IsKept h raws a → IsIn p (places_of h.classes (raws.raw a).shape) → p.kind ≡ Ref → (raws.raw a).values p ≡ pos n → is_node h.rows raws n ≡ true
+        → is_lost h.rows plan.stays n ≡ true → Contains (addresses plan.weak) (a + p.offset)
+    lost-listed a p n k there kind value node lost' = by p.weak refl k.stays
+      where
+        mortal : is_mortal h.rows n ≡ true
+        mortal = (and_parts (raws.has n) (is_mortal h.rows n) node).1
+
+        never : IsReached h raws n → ⊥
+        never r = clash (is_lost h.rows plan.stays n) lost' (reached-stays n r)
+
+        by : (w : Bool) → p.weak ≡ w → (is_mortal h.rows a ≡ false) ⊎ IsReached h raws a → Contains (addresses plan.weak) (a + p.offset)
+        by false strong (inl immortal) =
+            let slot : Slot = record { at = record { 0 = a + p.offset }; target = record { 0 = n }; weak = p.weak } in
+            let c = filter-in is_strong h.slots slot (slot-in h.slots slot (slot-listed a p n k.has immortal there kind value mortal)) (ap not strong) in
+            absurd (never (reached-start h.classes h.rows raws (starts_of h.roots h.slots) n (Contains-append_right (addresses h.roots) (map (λ (s : Slot). s.target.0) (filter is_strong h.slots)) n (map-in (λ (s : Slot). s.target.0) (filter is_strong h.slots) slot c)) node))
+        by false strong (inr r) = absurd (never (reached-held h.classes h.rows raws (starts_of h.roots h.slots) a n r (record { place = p; is_in = there; kind_is = kind; strong = strong; target_is = value; node = node })))
+        by true weak (inl immortal) =
+            (ok.weak.only (a + p.offset)).1 (inr (record { slot = record { at = record { 0 = a + p.offset }; target = record { 0 = n }; weak = p.weak }; is_in = slot-listed a p n k.has immortal there kind value mortal; weak_is = weak; at_is = refl }))
+        by true weak (inr r) = (ok.weak.only (a + p.offset)).1 (inl (record { object = a; place = p; reached = r; is_in = there; kind_is = kind; weak_is = weak; at_is = refl }))
+
     lost-cleared : (a : ℕ) (p : FieldAt) (n : ℕ) → IsKept h raws a → IsIn p (places_of h.classes (raws.raw a).shape) → p.kind ≡ Ref → (raws.raw a).values p ≡ pos n → n < 2 ^ 32 → IsFound raws n
         → is_lost h.rows plan.stays n ≡ true → null-at a p ≡ true
-    lost-cleared a p n kept' there kind value small found lost' = ?
+    lost-cleared a p n k there kind value small found lost' =
+        let row = lost-row n lost' in
+        let large = row-large h.rows n can.large.rows row.0 in
+        let node : is_node h.rows raws n ≡ true = and_from (raws.has n) (is_mortal h.rows n) (found.large large) (or_right (in_regions n) (waits_in (row_at h.rows n)) (ap waits_in row.0.found ∙ row.0.waits_is)) in
+        let listed = lost-listed a p n k there kind value node lost' in
+        let r : Raw = raws.raw a in
+        let v = view_of m t in
+        let fits : is_value Ref (r.values p) ≡ true = ap (is_value Ref) value ∙ address-fits n small in
+        let read = loaded h.classes v a r.shape r.header r.values Ref p.offset p (can.held.holds.stands a k.has) (record { is_in = there; kind_is = kind; offset_is = refl }) fits in
+        let word : u32_at v (a + p.offset) ≡ n = ap address_of (read ∙ value) in
+        let at = row.0.at_is in
+        let some : nat_eq n 0 ≡ false = ne_eqb n 0 (λ e. omega (arith, at, e)) in
+        let leaves' : stays_in plan.stays n ≡ false = or_from (not (in_large n)) (is_member plan.stays (slot_in n)) (ap not large) row.1 in
+        let dead' : is_dead (stays_in plan.stays) v (a + p.offset) ≡ true = and_from (not (nat_eq (u32_at v (a + p.offset)) 0)) (not (stays_in plan.stays (u32_at v (a + p.offset))))
+            (ap (λ (x : ℕ). not (nat_eq x 0)) word ∙ ap not some) (ap (λ (x : ℕ). not (stays_in plan.stays x)) word ∙ ap not leaves') in
+        any-of (λ (b : ℕ). nat_eq b (a + p.offset)) (gone h m t raws plan can ok) (a + p.offset) (filter-in (is_dead (stays_in plan.stays) v) (addresses plan.weak) (a + p.offset) listed dead') (eq-eqb (a + p.offset) (a + p.offset) refl)
+
+    stays-here : (a : ℕ) → raws.has a ≡ true → in_regions a ≡ false → now.raw a ≡ (cleared h m t raws plan can ok).raw a
+    stays-here a has out = stays-raw h m t raws plan can ok m1 run.clears run.sound1 m2 s2 tos run.moves run.regions2.1 run.outside run.only2 a has out
+
+    length-same : length tos ≡ length plan.young
+    length-same = same-length h m t raws plan can ok m1 run.clears run.sound1 m2 s2 tos run.moves run.regions2.1 run.outside run.only2
+
+    copy-raw : (a : ℕ) → IsKept h raws a → now.raw (go a) ≡ (cleared h m t raws plan can ok).raw a
+    copy-raw a k = elim (kept-cases a k) [
+      | inl it ↦ ap now.raw it.3 ∙ run.moves.moves.copy it.0 it.1 ∙ ap (cleared h m t raws plan can ok).raw it.2
+      | inr it ↦ ap now.raw it.1 ∙ stays-here a k.has it.0
+    ]
 
     -- and one that isn't turned leads outside the regions
     unturned-outside : (a : ℕ) (p : FieldAt) (n : ℕ) → IsKept h raws a → IsIn p (places_of h.classes (raws.raw a).shape) → p.kind ≡ Ref → (raws.raw a).values p ≡ pos n → tests (go a + p.offset) ≡ false → in_regions n ≡ false
-    unturned-outside a p n kept' there kind value off = ?
+    unturned-outside a p n k there kind value off = no (in_regions n) (λ inside. clash (tests (go a + p.offset)) (turned-there inside) off)
+      where
+        b : ℕ
+        b = go a + p.offset
+
+        here : is_reference_at h.classes now (go a + p.offset) (go a) ≡ true
+        here = place-reference h.classes (now.raw (go a)).shape (go a) p (subst (λ (r : Raw). IsIn p (places_of h.classes r.shape)) (sym (copy-raw a k)) there) kind
+
+        object : (ats : List Addr) → Contains (addresses ats) (go a) → is_reference_of h.classes now ats (go a + p.offset) ≡ true
+        object ats c =
+            let it = map-from (λ (x : Addr). x.0) ats (go a) c in
+            any-of (λ (x : Addr). is_reference_at h.classes now (go a + p.offset) x.0) ats it.0 it.1 (ap (is_reference_at h.classes now (go a + p.offset)) it.2 ∙ here)
+
+        turned-there : in_regions n ≡ true → tests (go a + p.offset) ≡ true
+        turned-there inside = elim (kept-cases a k) [
+          | inl it ↦
+              let c : Contains (addresses tos) (go a) = subst (λ (x : ℕ). Contains (addresses tos) x) (sym it.3) (get-in tos it.0 (omega (arith, it.1, length-same))) in
+              or_right (is_slot_of plan.turned (go a + p.offset)) _ (or_right (is_reference_of h.classes now plan.large (go a + p.offset)) _ (or_left (is_reference_of h.classes now tos (go a + p.offset)) false (object tos c)))
+          | inr it ↦ elim k.stays [
+            | inl immortal ↦
+                let slot : Slot = record { at = record { 0 = a + p.offset }; target = record { 0 = n }; weak = p.weak } in
+                let c = filter-in leads_young h.slots slot (slot-in h.slots slot (slot-listed a p n k.has immortal there kind value (or_left (in_regions n) (waits_in (row_at h.rows n)) inside))) inside in
+                let same : a + p.offset ≡ go a + p.offset = omega (arith, it.1) in
+                or_left (is_slot_of plan.turned (go a + p.offset)) _ (any-of (λ (s : Slot). nat_eq s.at.0 (go a + p.offset)) plan.turned slot (subst (λ (xs : List Slot). Contains xs slot) (sym ok.turned) c) (eq-eqb (a + p.offset) (go a + p.offset) same))
+            | inr r ↦ or_right (is_slot_of plan.turned (go a + p.offset)) _ (or_left (is_reference_of h.classes now plan.large (go a + p.offset)) _ (object plan.large (subst (λ (x : ℕ). Contains (addresses plan.large) x) (sym it.1) ((ok.large.only a).1 (it.0, r)))))
+          ]
+        ]
 
     -- only references were cleared
     plain-kept : (a : ℕ) (p : FieldAt) → raws.has a ≡ true → IsIn p (places_of h.classes (raws.raw a).shape) → is_ref p.kind ≡ false → null-at a p ≡ false
@@ -335,6 +440,25 @@ module _ (h : HeapState) (m : Memory) (t : ℕ) (raws : Raws) (plan : Listed) (c
           ]
         ])
 
+    ref-value : (a : ℕ) (p : FieldAt) (n : ℕ) → IsKept h raws a → IsIn p (places_of h.classes (raws.raw a).shape) → p.kind ≡ Ref → (raws.raw a).values p ≡ pos n → n < 2 ^ 32 → IsFound raws n
+        → cond (tests (go a + p.offset)) (pos (goes now (address_of (cond (null-at a p) (pos 0) ((raws.raw a).values p))))) (cond (null-at a p) (pos 0) ((raws.raw a).values p)) ≡ pos (go (address_of ((raws.raw a).values p)))
+    ref-value a p n k there kind value small found =
+        subst (λ (z : ℤ). cond (tests (go a + p.offset)) (pos (goes now (address_of (cond (null-at a p) (pos 0) z)))) (cond (null-at a p) (pos 0) z) ≡ pos (go (address_of z))) (sym value) (by (null-at a p) refl (tests (go a + p.offset)) refl)
+      where
+        by : (w : Bool) → null-at a p ≡ w → (d : Bool) → tests (go a + p.offset) ≡ d → cond d (pos (goes now (address_of (cond w (pos 0) (pos n))))) (cond w (pos 0) (pos n)) ≡ pos (go n)
+        by true is d e =
+            let lost' = unstaying n found (gone-lost h m t raws plan can ok a p n k.has there kind value small is) in
+            let none : pos (go n) ≡ pos 0 = ap (λ (b : Bool). pos (cond b 0 (goes now n))) lost' in
+            both d ∙ sym none
+          where
+            both : (d : Bool) → cond d (pos (goes now 0)) (pos 0) ≡ pos 0
+            both true = refl
+            both false = refl
+        by false is true e =
+            ap (λ (x : ℕ). pos x) (sym (led-by n (no (is_lost h.rows plan.stays n) (λ l. clash (null-at a p) (lost-cleared a p n k there kind value small found l) is))))
+        by false is false e =
+            ap (λ (x : ℕ). pos x) (sym (led-by n (no (is_lost h.rows plan.stays n) (λ l. clash (null-at a p) (lost-cleared a p n k there kind value small found l) is)) ∙ beside n (unturned-outside a p n k there kind value e)))
+
     -- the value at a place of a kept object is the old one, led to where it goes
     led-value : (a : ℕ) (p : FieldAt) → IsKept h raws a → IsIn p (places_of h.classes (raws.raw a).shape)
         → cond (tests (go a + p.offset)) (turned now p (cond (null-at a p) (pos 0) ((raws.raw a).values p))) (cond (null-at a p) (pos 0) ((raws.raw a).values p)) ≡ turned_by go p ((raws.raw a).values p)
@@ -353,10 +477,13 @@ module _ (h : HeapState) (m : Memory) (t : ℕ) (raws : Raws) (plan : Listed) (c
             ∙ same (tests (go a + p.offset)) (cond (null-at a p) (pos 0) v)
             ∙ ap (λ (b : Bool). cond b (pos 0) v) quiet
             ∙ sym (ap (λ (b : Bool). cond b (pos (go (address_of v))) v) plain)
-        by true ref = ?
-
-    copy-raw : (a : ℕ) → IsKept h raws a → now.raw (go a) ≡ (cleared h m t raws plan can ok).raw a
-    copy-raw a kept' = ?
+        by true ref =
+            let kind : p.kind ≡ Ref = ref-kind p.kind ref in
+            let held = can.targets a p kept'.has there kind in
+            let v : ℤ = (raws.raw a).values p in
+            let one : (d w : Bool) → cond d (turned now p (cond w (pos 0) v)) (cond w (pos 0) v) ≡ cond d (pos (goes now (address_of (cond w (pos 0) v)))) (cond w (pos 0) v) = λ d w. ap (λ (b : Bool). cond d (cond b (pos (goes now (address_of (cond w (pos 0) v)))) (cond w (pos 0) v)) (cond w (pos 0) v)) ref in
+            let end : turned_by go p v ≡ pos (go (address_of v)) = ap (λ (b : Bool). cond b (pos (go (address_of v))) v) ref in
+            one (tests (go a + p.offset)) (null-at a p) ∙ ref-value a p held.address kept' there kind held.is held.below held.found ∙ sym end
 
     left-has : (b : ℕ) → (left-raws.has b ≡ true) ↔ ((a : ℕ) × IsKept h raws a × (go a ≡ b))
     left-has b = ?
