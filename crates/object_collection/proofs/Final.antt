@@ -1,5 +1,5 @@
 -- What holds after a collection.
-use Rattle.std.proofs.Common.{◌≡◌, ◌≢◌, ◌∙◌, ◌⊎◌, ◌||◌, ◌&&◌, ℕ, ◌+◌, ◌*◌, ◌<◌, ◌≤◌, inl, inr, Bool, true, false, cond, List, [], ◌∷◌, ◌++◌, Option, Some, None, pos, filter, length, map, nat_eq, refl, sym, ap, subst, arith}
+use Rattle.std.proofs.Common.{◌≡◌, ◌≢◌, ◌∙◌, ◌⊎◌, ◌||◌, ◌&&◌, ℕ, ◌+◌, ◌*◌, ◌<◌, ◌≤◌, inl, inr, Bool, true, false, cond, List, [], ◌∷◌, ◌++◌, Option, Some, None, pos, filter, get_or, length, map, nat_eq, refl, sym, ap, subst, arith}
 use Rattle.std.specs.Prelude.{◌↔◌, ◌^◌, if◌then◌else◌, ℤ, IsTrue, count_by, is_some, nat_le, nat_lt, not}
 use Rattle.std.specs.List.{list_any, AllByRecursion, Contains}
 use Rattle.std.specs.List.{IsDistinct}
@@ -485,8 +485,70 @@ module _ (h : HeapState) (m : Memory) (t : ℕ) (raws : Raws) (plan : Listed) (c
             let end : turned_by go p v ≡ pos (go (address_of v)) = ap (λ (b : Bool). cond b (pos (go (address_of v))) v) ref in
             one (tests (go a + p.offset)) (null-at a p) ∙ ref-value a p held.address kept' there kind held.is held.below held.found ∙ sym end
 
+    test-inside : (x : ℕ) → in_regions x ≡ true → left-test x ≡ list_any (λ (y : Addr). nat_eq y.0 x) tos
+    test-inside x inside = ap (λ (c : Bool). cond c (list_any (λ (y : Addr). nat_eq y.0 x) tos) (not (is_lost h.rows plan.stays x))) inside
+
+    test-outside : (x : ℕ) → in_regions x ≡ false → left-test x ≡ not (is_lost h.rows plan.stays x)
+    test-outside x out = ap (λ (c : Bool). cond c (list_any (λ (y : Addr). nat_eq y.0 x) tos) (not (is_lost h.rows plan.stays x))) out
+
+    tos-has : (i : ℕ) → i < length tos → now.has (at_of tos i) ≡ true
+    tos-has i below = copy-has h m t raws plan can ok m1 run.clears run.sound1 m2 s2 tos run.moves run.regions2.1 run.outside run.only2 i below
+
+    tos-inside : (i : ℕ) → i < length tos → in_regions (at_of tos i) ≡ true
+    tos-inside i below = copy-inside h m t raws plan can ok m1 run.clears run.sound1 m2 s2 tos run.moves run.regions2.1 run.outside run.only2 i below
+
+    kept-left : (a : ℕ) → IsKept h raws a → left-raws.has (go a) ≡ true
+    kept-left a k = elim (kept-cases a k) [
+      | inl it ↦
+          let below : it.0 < length tos = omega (arith, it.1, length-same) in
+          let none : Addr = record { 0 = 0 } in
+          let to : Addr = get_or tos it.0 none in
+          let any = any-of (λ (y : Addr). nat_eq y.0 (at_of tos it.0)) tos to (it.0, below, get_or_default tos it.0 to none below) (eq-eqb to.0 to.0 refl) in
+          subst (λ (x : ℕ). left-raws.has x ≡ true) (sym it.3) (and_from (now.has (at_of tos it.0)) (left-test (at_of tos it.0)) (tos-has it.0 below) (test-inside (at_of tos it.0) (tos-inside it.0 below) ∙ any))
+      | inr it ↦
+          subst (λ (x : ℕ). left-raws.has x ≡ true) (sym it.1) (and_from (now.has a) (left-test a) (run.moves.moves.has a k.has) (test-outside a it.0 ∙ ap not it.2))
+    ]
+
+    waiting-reached : (b : ℕ) → IsWaiting h.rows b → is_lost h.rows plan.stays b ≡ false → IsReached h raws b
+    waiting-reached b it quiet = by (is_member plan.stays it.row.slot) refl
+      where
+        by : (c : Bool) → is_member plan.stays it.row.slot ≡ c → IsReached h raws b
+        by true is = elim ((ok.stays.test it.row it.is_in).0 is) [
+          | inl promoted ↦ absurd (clash it.row.promoted promoted (flip it.row.promoted it.waits_is))
+          | inr r ↦ subst (λ (n : ℕ). IsReached h raws n) it.at_is r
+        ]
+        by false is = absurd (clash (is_lost h.rows plan.stays b) (and_from (waits_in (row_at h.rows b)) (not (is_member plan.stays (slot_in b))) (ap waits_in it.found ∙ it.waits_is) (ap (λ (n : ℕ). not (is_member plan.stays n)) (slot-is b it) ∙ ap not is)) quiet)
+
+    not-lost : (b : ℕ) → raws.has b ≡ true → in_regions b ≡ false → is_lost h.rows plan.stays b ≡ false → IsKept h raws b
+    not-lost b has out quiet = record { has = has; stays = by (is_mortal h.rows b) refl }
+      where
+        by : (c : Bool) → is_mortal h.rows b ≡ c → (is_mortal h.rows b ≡ false) ⊎ IsReached h raws b
+        by false e = inl e
+        by true e = elim (mortal-cases h.rows b e) [
+          | inl inside ↦ absurd (clash (in_regions b) inside out)
+          | inr waiting ↦ inr (waiting-reached b waiting quiet)
+        ]
+
+    left-kept : (b : ℕ) → left-raws.has b ≡ true → (a : ℕ) × IsKept h raws a × (go a ≡ b)
+    left-kept b is = by (in_regions b) refl (and_parts (now.has b) (left-test b) is)
+      where
+        by : (c : Bool) → in_regions b ≡ c → (now.has b ≡ true) × (left-test b ≡ true) → (a : ℕ) × IsKept h raws a × (go a ≡ b)
+        by true inside parts =
+            let it = any-at (λ (y : Addr). nat_eq y.0 b) tos (sym (test-inside b inside) ∙ parts.1) in
+            let i : ℕ = it.1.0 in
+            let below : i < length plan.young = omega (arith, it.1.1, length-same) in
+            let to : at_of tos i ≡ b = ap (λ (y : Addr). y.0) (get_or_default tos i (record { 0 = 0 }) it.0 it.1.1 ∙ it.1.2) ∙ eqb-true it.0.0 b it.2 in
+            let reach = (ok.young.only (at_of plan.young i)).0 (get-in plan.young i below) in
+            (at_of plan.young i, record { has = (reached-has h m t raws can (at_of plan.young i) reach.1).0; stays = inr reach.1 }, leads.moves i below ∙ to)
+        by false out parts =
+            let quiet : is_lost h.rows plan.stays b ≡ false = flip (is_lost h.rows plan.stays b) (sym (test-outside b out) ∙ parts.1) in
+            elim (run.moves.moves.only b parts.0) [
+              | inl old ↦ (b, not-lost b old out quiet, led-by b quiet ∙ beside b out)
+              | inr it ↦ absurd (clash (in_regions b) (ap in_regions (sym it.2) ∙ tos-inside it.0 (omega (arith, it.1, length-same))) out)
+            ]
+
     left-has : (b : ℕ) → (left-raws.has b ≡ true) ↔ ((a : ℕ) × IsKept h raws a × (go a ≡ b))
-    left-has b = ?
+    left-has b = (left-kept b, λ it. subst (λ (x : ℕ). left-raws.has x ≡ true) it.2 (kept-left it.0 it.1))
 
     are-left : AreLeft h raws left-raws go
     are-left = record {
