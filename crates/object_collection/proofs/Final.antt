@@ -1,5 +1,5 @@
 -- What holds after a collection.
-use Rattle.std.proofs.Common.{◌≡◌, ◌≢◌, ◌∙◌, ◌⊎◌, ◌||◌, ◌&&◌, ℕ, ◌+◌, ◌*◌, ◌<◌, ◌≤◌, inl, inr, Bool, true, false, cond, List, [], ◌∷◌, ◌++◌, All, Option, Some, None, pos, ◌-◌, filter, get_or, length, map, nat_eq, refl, sym, ap, subst, arith}
+use Rattle.std.proofs.Common.{◌≡◌, ◌≢◌, ◌∙◌, ◌⊎◌, ◌||◌, ◌&&◌, ℕ, ◌+◌, ◌*◌, ◌/◌, ◌<◌, ◌≤◌, inl, inr, Bool, true, false, cond, List, [], ◌∷◌, ◌++◌, All, Option, Some, None, pos, ◌-◌, filter, get_or, length, map, nat_eq, refl, sym, ap, subst, arith}
 use Rattle.std.specs.Prelude.{◌↔◌, ◌^◌, if◌then◌else◌, ℤ, IsTrue, count_by, is_some, nat_le, nat_lt, not}
 use Rattle.std.specs.List.{list_any, AllByRecursion, Contains}
 use Rattle.std.specs.List.{IsDistinct}
@@ -44,7 +44,8 @@ use Rattle.graph_pages.specs.Collected.{turned_by}
 use Rattle.heap_graph.specs.Places.{places_of}
 use Rattle.heap_graph.proofs.Places.{bytes-low, one-place}
 use Rattle.object_view.proofs.Laid.{place-within}
-use Rattle.large_objects.proofs.TableLemmas.{row-spot}
+use Rattle.large_objects.proofs.TableLemmas.{row-found, row-spot}
+use Rattle.large_objects.proofs.LawLemmas.{row-covers}
 use Rattle.std.proofs.lemmas.Bool.{cases_order, le-leb, ne_eqb}
 use Rattle.region_space.specs.Space.{filled, lists_of, IsFilled, IsSpace, Space}
 use Rattle.region_space.specs.Pages.{lies_in, IsObjectIn}
@@ -58,7 +59,7 @@ use Rattle.region_space.specs.Space.{HasPages as HasRegionPages}
 use Rattle.region_space.specs.Space.{holds_page as region_page}
 use Rattle.large_objects.specs.declared.rows.LargeRow.{LargeRow}
 use Rattle.large_objects.specs.Pages.{holds_page, HasPages}
-use Rattle.large_objects.specs.Rows.{row_at, slot_base, waits, AreRows}
+use Rattle.large_objects.specs.Rows.{row_at, slot_base, waits, AreRows, IsBytes}
 use Rattle.live_objects.specs.Live.{addresses}
 use Rattle.weak_refs.specs.Weak.{is_dead, is_page_of, ClearsSlots}
 use Rattle.object_moves.specs.Copies.{at_of, moved, sizes_at, HoldsRegions, KeepsOutside, PacksAt}
@@ -71,7 +72,7 @@ use Rattle.object_view.proofs.Stores.{loaded}
 use Rattle.object_view.proofs.Laid.{ref-kind}
 use Rattle.object_collection.specs.Collects.{may_change, AreLeft, AreRowsLeft, CanCollect, HeapState, IsCollected, IsKept, IsReached, Leads, LeavesPages}
 use Rattle.object_collection.specs.Phases.{goes_by, is_lost, is_turned, leads_to, slot_in, stays_by, stays_in, HaveMoved, IsPlan, Listed, LosesPages, Turning}
-use Rattle.object_collection.proofs.Marked.{filter-fewer, gone-waits}
+use Rattle.object_collection.proofs.Marked.{filter-fewer, gone-waits, row-found-at}
 use Rattle.object_collection.proofs.Dropping.{dead-window, mapped-alone, windows-apart}
 use Rattle.object_collection.proofs.Facts.{all-at, any-at, any-of, filter-from, filter-in, may-large, may-young, mortal-cases, reached-has, row-in, waiting-row, IsWaiting}
 use Rattle.object_collection.proofs.Nulled.{slot-in, weak-page, weak-reference}
@@ -213,6 +214,58 @@ module _ (h : HeapState) (m : Memory) (t : ℕ) (raws : Raws) (plan : Listed) (c
 
     pub waiting-fewer : length (filter waits rows) ≤ length (filter waits h.rows)
     waiting-fewer = subst (λ (rs : List LargeRow). length (filter waits rs) ≤ length (filter waits h.rows)) (sym run.rows_are) (filter-fewer waits (stays_by plan.large) h.rows)
+
+    abbrev kept : Keeps m m1 t (is_page_of (gone h m t raws plan can ok))
+    kept = kept1 h m t raws plan can ok m1 run.clears run.sound1
+
+    gone-may : (q : ℕ) → is_page_of (gone h m t raws plan can ok) q ≡ true → may_change h q ≡ true
+    gone-may q is =
+        let it = any-at (λ (at : ℕ). nat_eq (page_of at) q) (addresses plan.weak) (any-fewer (λ (at : ℕ). nat_eq (page_of at) q) (is_dead (stays_in plan.stays) (view_of m t)) (addresses plan.weak) is) in
+        ap (may_change h) (sym (eqb-true (page_of it.0) q it.2)) ∙ (weak-page h m t raws plan can ok it.0 it.1).1
+
+    goes-may : (q : ℕ) → list_any (holds_page q) (filter (goes_by plan.large) h.rows) ≡ true → may_change h q ≡ true
+    goes-may q is = may-large h m t raws can q (gone-waits plan.large q h.rows is)
+
+    from-regions : (q : ℕ) → list_any (region_page q) s2.from ≡ true → is_in Regions q ≡ true
+    from-regions q is = from-window (lists_of s2) q run.moves.held.space is
+
+    not-gone : (q : ℕ) → may_change h q ≡ false → (list_any (region_page q) s2.from || list_any (holds_page q) (filter (goes_by plan.large) h.rows)) ≡ false
+    not-gone q out = or_from (list_any (region_page q) s2.from) (list_any (holds_page q) (filter (goes_by plan.large) h.rows))
+        (no (list_any (region_page q) s2.from) (λ is. clash (may_change h q) (may-young h m t raws can q (from-regions q is)) out))
+        (no (list_any (holds_page q) (filter (goes_by plan.large) h.rows)) (λ is. clash (may_change h q) (goes-may q is) out))
+
+    beside-gone : (q : ℕ) → is_in Regions q ≡ false → list_any (holds_page q) (filter waits h.rows) ≡ false
+        → (list_any (region_page q) s2.from || list_any (holds_page q) (filter (goes_by plan.large) h.rows)) ≡ false
+    beside-gone q beside quiet = or_from (list_any (region_page q) s2.from) (list_any (holds_page q) (filter (goes_by plan.large) h.rows))
+        (no (list_any (region_page q) s2.from) (λ is. clash (is_in Regions q) (from-regions q is) beside))
+        (no (list_any (holds_page q) (filter (goes_by plan.large) h.rows)) (λ is. clash (list_any (holds_page q) (filter waits h.rows)) (gone-waits plan.large q h.rows is) quiet))
+
+    -- a page that is still mapped wasn't one of a large object that went
+    mapped-stays : (q : ℕ) → is_in Regions q ≡ false → IsTrue (is_mapped m4 t q) → (list_any (region_page q) s2.from || list_any (holds_page q) (filter (goes_by plan.large) h.rows)) ≡ false
+    mapped-stays q beside mapped = or_from (list_any (region_page q) s2.from) (list_any (holds_page q) (filter (goes_by plan.large) h.rows))
+        (no (list_any (region_page q) s2.from) (λ is. clash (is_in Regions q) (from-regions q is) beside))
+        (no (list_any (holds_page q) (filter (goes_by plan.large) h.rows)) (λ is.
+            let there : list_any (holds_page q) (filter (stays_by plan.large) h.rows) ≡ true = ap (λ (rs : List LargeRow). list_any (holds_page q) rs) (sym run.rows_are) ∙ sym (run.large_pages q (dead-window h.rows (goes_by plan.large) q can.large.rows is)) ∙ mapped in
+            clash (list_any (holds_page q) (filter (stays_by plan.large) h.rows)) there (one-side (stays_by plan.large) q h.rows can.large.rows.apart can.large.rows.bytes is)))
+
+    regions-alone : (q : ℕ) → is_in Regions q ≡ true → IsTrue (is_mapped m4 t q) → HasOneSharer m4 t q
+    regions-alone q inside mapped =
+        let any : list_any (region_page q) (filled (lists_of s4)) ≡ true = sym (run.region_pages q inside) ∙ mapped in
+        let in_use : list_any (region_page q) s2.in_use ≡ true = ap (λ (rows : List Row). list_any (region_page q) rows) (sym run.regions4.0 ∙ sym (append-nil s4.in_use) ∙ ap (λ (rows : List Row). s4.in_use ++ rows) (sym run.no_from.0)) ∙ any in
+        let alone : HasOneSharer m2 t q = run.moves.held.alone q (list_any-append (region_page q) s2.in_use s2.from ∙ or_left (list_any (region_page q) s2.in_use) (list_any (region_page q) s2.from) in_use) in
+        mapped-alone m2 m4 t q (only-trans m2 m3 m4 t (one-table m2 m3 t (may_change h) run.keeps3) run.only4) alone mapped
+
+    mapped-alone' : (q : ℕ) → (is_in Regions q ≡ true) ⊎ HasOneSharer m t q → IsTrue (is_mapped m4 t q) → HasOneSharer m4 t q
+    mapped-alone' q (inl inside) mapped = regions-alone q inside mapped
+    mapped-alone' q (inr alone) mapped = mapped-alone m m4 t q only-table alone mapped
+
+    may-cases : (q : ℕ) → may_change h q ≡ true → (is_in Regions q ≡ true) ⊎ HasOneSharer m t q
+    may-cases q may = elim (or_cases (is_in Regions q || list_any (holds_page q) (filter waits h.rows)) (list_any (λ (slot : Slot). nat_eq (page_of slot.at.0) q) h.slots) may) [
+      | inl objects ↦ elim (or_cases (is_in Regions q) (list_any (holds_page q) (filter waits h.rows)) objects) [ inl inside ↦ inl inside | inr large ↦ inr (can.large.alone q large) ]
+      | inr slots ↦
+          let it = any-at (λ (slot : Slot). nat_eq (page_of slot.at.0) q) h.slots slots in
+          inr (subst (λ (p : ℕ). HasOneSharer m t p) (eqb-true (page_of it.0.at.0) q it.2) (can.slots.alone it.0 (contains-in h.slots it.0 it.1)))
+    ]
 
     abbrev now : Raws
     now = copied tos
@@ -630,9 +683,42 @@ module _ (h : HeapState) (m : Memory) (t : ℕ) (raws : Raws) (plan : Listed) (c
           ];
         }
 
+    -- one that isn't lost isn't that of a row that goes
+    other-row : (a : ℕ) (row : LargeRow) → Contains h.rows row → goes_by plan.large row ≡ true → a ≡ slot_base row.slot → in_regions a ≡ false → is_lost h.rows plan.stays a ≡ false → ⊥
+    other-row a row there goes' same out quiet =
+        let stays' : stays_by plan.large row ≡ false = flip (stays_by plan.large row) goes' in
+        let parts = or_parts row.promoted (list_any (nat_eq (slot_base row.slot)) (addresses plan.large)) stays' in
+        let found : row_at h.rows a ≡ Some row = ap (row_at h.rows) same ∙ row-found-at h.rows row can.large.rows there in
+        let r = waiting-reached a (record { row = row; found = found; is_in = there; waits_is = ap not parts.0; at_is = sym same }) quiet in
+        let listed = any-of (nat_eq (slot_base row.slot)) (addresses plan.large) a ((ok.large.only a).1 (out, r)) (eq-eqb (slot_base row.slot) a (sym same)) in
+        clash (list_any (nat_eq (slot_base row.slot)) (addresses plan.large)) listed parts.1
+
     -- an object that is left isn't on a page of a large one that goes
     off-large : (a k : ℕ) → raws.has a ≡ true → in_regions a ≡ false → is_lost h.rows plan.stays a ≡ false → k < raw_size h.classes raws a → list_any (holds_page (page_of (a + k))) (filter (goes_by plan.large) h.rows) ≡ true → ⊥
-    off-large a k has out quiet less is = ?
+    off-large a k has out quiet less is =
+        let p : ℕ = page_of (a + k) in
+        let it = any-at (holds_page p) (filter (goes_by plan.large) h.rows) is in
+        let found = filter-from (goes_by plan.large) h.rows it.0 it.1 in
+        let row : LargeRow = it.0 in
+        let s : ℕ = slot_base row.slot in
+        let bytes = all-at (λ (r : LargeRow). IsBytes r.bytes) h.rows row can.large.rows.bytes found.0 in
+        let slot = all-at (λ (r : LargeRow). r.slot < large_slot_count) h.rows row can.large.rows.within found.0 in
+        let there = can.large.has row found.0 in
+        let covers_it = and_parts (nat_le (page_of s) p) (nat_le p (page_of (s + (row.bytes + 7) / 8 * 8 - 1))) (sym (row-covers row p bytes) ∙ it.2) in
+        let low = leb-true (page_of s) p covers_it.0 in
+        let high = leb-true p (page_of (s + (row.bytes + 7) / 8 * 8 - 1)) covers_it.1 in
+        let most = bytes.most in
+        elim (cases_order a s) [
+          | inl same ↦ other-row a row found.0 found.1 same out quiet
+          | inr order ↦ elim order [
+            | inl before ↦ let apart = can.held.holds.apart a s has there.0 before in omega (arith, apart, less, low)
+            | inr behind ↦
+                let large : in_large a ≡ true = inside 524288 655360 (page_of a) (omega (arith, behind)) (omega (arith, high, slot, most)) in
+                let mine = row-found h.rows a (can.large.only a has large) in
+                let at = mine.2 in
+                omega (arith, at, behind, high, most)
+          ]
+        ]
 
     off-dropped : (p : ℕ) → dropped p ≡ true → IsOffPage h.classes left-raws p
     off-dropped p is a k has less page = by (in_regions a) refl (or_cases (list_any (region_page p) s2.from) (list_any (holds_page p) (filter (goes_by plan.large) h.rows)) is)
@@ -691,58 +777,6 @@ module _ (h : HeapState) (m : Memory) (t : ℕ) (raws : Raws) (plan : Listed) (c
       large_pages = run.large_pages;
       roots_lead = roots-lead;
     }
-
-    abbrev kept : Keeps m m1 t (is_page_of (gone h m t raws plan can ok))
-    kept = kept1 h m t raws plan can ok m1 run.clears run.sound1
-
-    gone-may : (q : ℕ) → is_page_of (gone h m t raws plan can ok) q ≡ true → may_change h q ≡ true
-    gone-may q is =
-        let it = any-at (λ (at : ℕ). nat_eq (page_of at) q) (addresses plan.weak) (any-fewer (λ (at : ℕ). nat_eq (page_of at) q) (is_dead (stays_in plan.stays) (view_of m t)) (addresses plan.weak) is) in
-        ap (may_change h) (sym (eqb-true (page_of it.0) q it.2)) ∙ (weak-page h m t raws plan can ok it.0 it.1).1
-
-    goes-may : (q : ℕ) → list_any (holds_page q) (filter (goes_by plan.large) h.rows) ≡ true → may_change h q ≡ true
-    goes-may q is = may-large h m t raws can q (gone-waits plan.large q h.rows is)
-
-    from-regions : (q : ℕ) → list_any (region_page q) s2.from ≡ true → is_in Regions q ≡ true
-    from-regions q is = from-window (lists_of s2) q run.moves.held.space is
-
-    not-gone : (q : ℕ) → may_change h q ≡ false → (list_any (region_page q) s2.from || list_any (holds_page q) (filter (goes_by plan.large) h.rows)) ≡ false
-    not-gone q out = or_from (list_any (region_page q) s2.from) (list_any (holds_page q) (filter (goes_by plan.large) h.rows))
-        (no (list_any (region_page q) s2.from) (λ is. clash (may_change h q) (may-young h m t raws can q (from-regions q is)) out))
-        (no (list_any (holds_page q) (filter (goes_by plan.large) h.rows)) (λ is. clash (may_change h q) (goes-may q is) out))
-
-    beside-gone : (q : ℕ) → is_in Regions q ≡ false → list_any (holds_page q) (filter waits h.rows) ≡ false
-        → (list_any (region_page q) s2.from || list_any (holds_page q) (filter (goes_by plan.large) h.rows)) ≡ false
-    beside-gone q beside quiet = or_from (list_any (region_page q) s2.from) (list_any (holds_page q) (filter (goes_by plan.large) h.rows))
-        (no (list_any (region_page q) s2.from) (λ is. clash (is_in Regions q) (from-regions q is) beside))
-        (no (list_any (holds_page q) (filter (goes_by plan.large) h.rows)) (λ is. clash (list_any (holds_page q) (filter waits h.rows)) (gone-waits plan.large q h.rows is) quiet))
-
-    -- a page that is still mapped wasn't one of a large object that went
-    mapped-stays : (q : ℕ) → is_in Regions q ≡ false → IsTrue (is_mapped m4 t q) → (list_any (region_page q) s2.from || list_any (holds_page q) (filter (goes_by plan.large) h.rows)) ≡ false
-    mapped-stays q beside mapped = or_from (list_any (region_page q) s2.from) (list_any (holds_page q) (filter (goes_by plan.large) h.rows))
-        (no (list_any (region_page q) s2.from) (λ is. clash (is_in Regions q) (from-regions q is) beside))
-        (no (list_any (holds_page q) (filter (goes_by plan.large) h.rows)) (λ is.
-            let there : list_any (holds_page q) (filter (stays_by plan.large) h.rows) ≡ true = ap (λ (rs : List LargeRow). list_any (holds_page q) rs) (sym run.rows_are) ∙ sym (run.large_pages q (dead-window h.rows (goes_by plan.large) q can.large.rows is)) ∙ mapped in
-            clash (list_any (holds_page q) (filter (stays_by plan.large) h.rows)) there (one-side (stays_by plan.large) q h.rows can.large.rows.apart can.large.rows.bytes is)))
-
-    regions-alone : (q : ℕ) → is_in Regions q ≡ true → IsTrue (is_mapped m4 t q) → HasOneSharer m4 t q
-    regions-alone q inside mapped =
-        let any : list_any (region_page q) (filled (lists_of s4)) ≡ true = sym (run.region_pages q inside) ∙ mapped in
-        let in_use : list_any (region_page q) s2.in_use ≡ true = ap (λ (rows : List Row). list_any (region_page q) rows) (sym run.regions4.0 ∙ sym (append-nil s4.in_use) ∙ ap (λ (rows : List Row). s4.in_use ++ rows) (sym run.no_from.0)) ∙ any in
-        let alone : HasOneSharer m2 t q = run.moves.held.alone q (list_any-append (region_page q) s2.in_use s2.from ∙ or_left (list_any (region_page q) s2.in_use) (list_any (region_page q) s2.from) in_use) in
-        mapped-alone m2 m4 t q (only-trans m2 m3 m4 t (one-table m2 m3 t (may_change h) run.keeps3) run.only4) alone mapped
-
-    mapped-alone' : (q : ℕ) → (is_in Regions q ≡ true) ⊎ HasOneSharer m t q → IsTrue (is_mapped m4 t q) → HasOneSharer m4 t q
-    mapped-alone' q (inl inside) mapped = regions-alone q inside mapped
-    mapped-alone' q (inr alone) mapped = mapped-alone m m4 t q only-table alone mapped
-
-    may-cases : (q : ℕ) → may_change h q ≡ true → (is_in Regions q ≡ true) ⊎ HasOneSharer m t q
-    may-cases q may = elim (or_cases (is_in Regions q || list_any (holds_page q) (filter waits h.rows)) (list_any (λ (slot : Slot). nat_eq (page_of slot.at.0) q) h.slots) may) [
-      | inl objects ↦ elim (or_cases (is_in Regions q) (list_any (holds_page q) (filter waits h.rows)) objects) [ inl inside ↦ inl inside | inr large ↦ inr (can.large.alone q large) ]
-      | inr slots ↦
-          let it = any-at (λ (slot : Slot). nat_eq (page_of slot.at.0) q) h.slots slots in
-          inr (subst (λ (p : ℕ). HasOneSharer m t p) (eqb-true (page_of it.0.at.0) q it.2) (can.slots.alone it.0 (contains-in h.slots it.0 it.1)))
-    ]
 
     pub leaves : LeavesPages h m m4 t
     leaves = record {
