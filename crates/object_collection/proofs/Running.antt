@@ -341,8 +341,8 @@ module _ (h : HeapState) (m : Memory) (t : ℕ) (raws : Raws) (plan : Listed) (c
           let held = can.targets out.object out.place out.has out.is_in out.kind_is in
           let small : slot.target.0 < 2 ^ 32 = subst (λ (n : ℕ). n < 2 ^ 32) (sym (ap address_of (out.target_is ∙ held.is))) held.below in
           let quiet : list_any (λ (b : ℕ). nat_eq b (out.object + out.place.offset)) gone ≡ false = not-true (list_any (λ (b : ℕ). nat_eq b (out.object + out.place.offset)) gone) (λ is.
-              let lost = gone-lost h m t raws plan can ok out.object out.place slot.target.0 out.has out.is_in out.kind_is (sym out.target_is) small is in
-              windows-apart (page_of slot.target.0) (listed-slot i below).1 (lost-large plan.stays slot.target.0 lost)) in
+          let lost = gone-lost h m t raws plan can ok out.object out.place slot.target.0 out.has out.is_in out.kind_is (sym out.target_is) small is in
+          windows-apart (page_of slot.target.0) (listed-slot i below).1 (lost-large plan.stays slot.target.0 lost)) in
           out.target_is ∙ sym (ap (λ (b : Bool). cond b (pos 0) ((raws.raw out.object).values out.place)) quiet)
 
       slot-raw : (i : ℕ) (below : i < length plan.turned) → now.raw (turned-slot i below).object ≡ cleared.raw (turned-slot i below).object
