@@ -1,6 +1,6 @@
 -- What is listed before a collection writes.
-use Rattle.std.proofs.Common.{◌≡◌, ◌∙◌, ◌⊎◌, ℕ, ◌+◌, ◌<◌, ◌≤◌, inl, inr, Bool, true, false, List, [], ◌++◌, filter, length, map, refl, sym, ap, subst, arith}
-use Rattle.std.specs.Prelude.{◌↔◌, IsTrue}
+use Rattle.std.proofs.Common.{◌≡◌, ◌∙◌, ◌⊎◌, ℕ, ◌<◌, ◌≤◌, inl, inr, Bool, true, false, List, ◌++◌, filter, length, map, sym, ap, subst}
+use Rattle.std.specs.Prelude.{◌↔◌}
 use Rattle.std.specs.List.{Contains}
 use Rattle.std.proofs.lemmas.Bool.{and_parts}
 use Rattle.std.proofs.lemmas.List.{append-nil}
@@ -19,8 +19,7 @@ use Rattle.region_lists.specs.Rows.{Row}
 use Rattle.region_space.specs.Packed.{packed_pages}
 use Rattle.region_space.specs.Pages.{IsObjectIn}
 use Rattle.large_objects.specs.declared.rows.LargeRow.{LargeRow}
-use Rattle.large_objects.specs.Rows.{slot_base}
-use Rattle.live_objects.specs.Live.{addresses, HasLarge, ListsYoung}
+use Rattle.live_objects.specs.Live.{addresses}
 use Rattle.live_objects.specs.Reach.{is_mortal, is_strong, starts_of, CanMark, IsFound}
 use Rattle.live_objects.proofs.YoungLemmas.{map-from}
 use Rattle.object_moves.specs.Copies.{at_of, sizes_at, IsYoungAt}
@@ -28,7 +27,7 @@ use Rattle.heap_graph.specs.Packing.{end_from}
 use Rattle.heap_graph.specs.Sizes.{parts_for}
 use Rattle.object_collection.specs.Collects.{CanCollect, HeapState, IsReached}
 use Rattle.object_collection.specs.Listed.{leads_young, AreSlotsOf, AreWeak, KnowsLive}
-use Rattle.object_collection.specs.Phases.{AreStaying, IsPlan, Listed, ListsLarge}
+use Rattle.object_collection.specs.Phases.{AreStaying, IsPlan, ListsLarge}
 use Rattle.object_collection.proofs.Facts.{all-at, filter-from, mortal-cases, reached-has}
 use Rattle.object_collection.proofs.Final.{slot-outside}
 use Rattle.object_collection.proofs.Room.{few, live-once, live-regions, live-young}

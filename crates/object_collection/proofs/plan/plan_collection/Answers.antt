@@ -1,9 +1,9 @@
-use Rattle.std.proofs.Common.{◌≡◌, ◌∙◌, ◌≤◌, ℕ, List, length, refl, sym, ap, subst, arith}
+use Rattle.std.proofs.Common.{◌≡◌, ◌∙◌, List, refl, ap, arith}
 use Rattle.page_tables.specs.declared.address.Addr.{Addr}
 use Rattle.raw_objects.specs.Raws.{Raws}
 use Rattle.region_space.specs.Packed.{packed_pages}
 use Rattle.object_moves.specs.Copies.{sizes_at}
-use Rattle.object_collection.specs.Collects.{state_of, CanCollect, HeapState}
+use Rattle.object_collection.specs.Collects.{state_of, HeapState}
 use Rattle.object_collection.specs.Listed.{KnowsLive}
 use Rattle.object_collection.proofs.Planning.{can-mark, few-regions, knows-still, planned, young-counted}
 use Rattle.object_collection.proofs.plan.plan_collection.Goals as goal
