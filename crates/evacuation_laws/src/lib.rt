@@ -1,0 +1,6 @@
+//! What a collection of the objects in memory means for the graph that they hold.
+#![tactic(auto)]
+
+mod laws;
+
+pub use laws::{collected_graphs_are_held, graphs_can_be_collected, reached_objects_are_reached};
