@@ -2,3 +2,4 @@ pub mod Members
 pub mod Rows
 pub mod Stand
 pub mod Reach
+pub mod Counts

@@ -1,14 +1,15 @@
 //! Laws about a graph that a process holds in its pages: what is reached, that it can be collected, and what a collection of
 //! its memory leaves.
-ghost use Rattle.std.specs.Prelude.{◌≡◌, ◌↔◌, ℕ, true, false, List};
+ghost use Rattle.std.specs.Prelude.{◌≡◌, ◌↔◌, ℕ, ◌+◌, true, false, List, filter, length};
 ghost use Rattle.class_layout.specs.Placing.{IsIn};
 ghost use Rattle.cow_pages.specs.Memory.{Memory};
 ghost use Rattle.page_tables.specs.declared.address.Addr.{Addr};
-ghost use Rattle.heap_graph.specs.Collection.{collect};
+ghost use Rattle.heap_graph.specs.Collection.{collect, freed_count, loose_count};
 ghost use Rattle.heap_graph.specs.Graph.{is_immune, Graph, Object};
 ghost use Rattle.heap_graph.specs.Reach.{is_among, reached};
 ghost use Rattle.region_space.specs.Space.{Space};
 ghost use Rattle.large_objects.specs.declared.rows.LargeRow.{LargeRow};
+ghost use Rattle.large_objects.specs.Rows.{waits};
 ghost use Rattle.object_view.specs.declared.names.Slot.{Slot};
 ghost use Rattle.address_table.specs.Computed.{table_of, Homes, HouseAll};
 ghost use Rattle.graph_pages.specs.Pages.{PagesHold};
@@ -35,4 +36,11 @@ pub fn collected_graphs_are_held()
         → IsCollected h new t (raws_of homes g) regions rows roots → HouseAll (homes_in regions.in_use rows) (collect g) }
     ensures stands { (h : HeapState) (old new : Memory) (t : ℕ) (homes : Homes) (g : Graph) (regions : Space) (rows : List LargeRow) (roots : List Addr) (slots : List Slot) → KeepsGraph h old t homes g
         → IsCollected h new t (raws_of homes g) regions rows roots → StandsFor (state_of h.classes regions rows roots slots) (collect g) (homes_in regions.in_use rows) }
+{}
+
+/// The objects of a graph that aren't immune are those that the regions count, and the large ones that no fork promoted. A
+/// collection frees none but these.
+pub fn loose_objects_are_counted()
+    ensures counted { (h : HeapState) (homes : Homes) (g : Graph) → g.sealed ≡ true → StandsFor h g homes → loose_count g ≡ h.regions.objects + length (filter waits h.rows) }
+    ensures freed { (g : Graph) → g.sealed ≡ true → freed_count g (collect g) + loose_count (collect g) ≡ loose_count g }
 {}
