@@ -2,3 +2,5 @@ pub mod Members
 pub mod Rows
 pub mod Stand
 pub mod Reach
+pub mod Young
+pub mod Packed
