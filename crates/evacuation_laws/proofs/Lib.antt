@@ -4,3 +4,4 @@ pub mod Stand
 pub mod Reach
 pub mod Young
 pub mod Packed
+pub mod Left

@@ -8,7 +8,8 @@ use Rattle.class_layout.specs.Placing.{IsIn}
 use Rattle.heap_graph.specs.declared.names.Place.{Place}
 use Rattle.heap_graph.specs.declared.names.Place.TheVariants as place
 use Rattle.heap_graph.specs.Formed.{AreRising}
-use Rattle.heap_graph.specs.Graph.{is_young, size_of_object, Object}
+use Rattle.heap_graph.specs.Collection.{cleared}
+use Rattle.heap_graph.specs.Graph.{is_immune, is_young, size_of_object, Object}
 use Rattle.heap_graph.specs.Packing.{after, places_from}
 use Rattle.heap_graph.specs.Packing as packing
 use Rattle.heap_graph.specs.Sizes.{unrounded}
@@ -139,3 +140,86 @@ module _ (cs : List Class) (table : ℕ → ℕ) where
       by place.Large same more = step x false (more (slot_in (table x.number)))
       by place.Promoted same more = step x true (more (slot_in (table x.number)))
 
+  -- each large object has a row
+  pub by-there : (os : List Object) (o : Object) → IsIn o os → has_slot o.place ≡ true → IsIn (row_by cs table o (is_immune true o.place)) (rows_by cs table os)
+  by-there [] o none is = absurd none
+  by-there (x ∷ os) o (inl e) is = subst (λ (y : Object). IsIn (row_by cs table y (is_immune true y.place)) (rows_by cs table (x ∷ os))) e (by x.place (ap (λ (y : Object). has_slot y.place) e ∙ is))
+    where
+      by : (at : Place) → has_slot at ≡ true → IsIn (row_by cs table x (is_immune true at)) (with_row_by cs table x at (rows_by cs table os))
+      by (place.Image spot) is = absurd (true≢false (sym is))
+      by (place.Zygote spot) is = absurd (true≢false (sym is))
+      by place.Young is = absurd (true≢false (sym is))
+      by place.Large is = inl refl
+      by place.Promoted is = inl refl
+  by-there (x ∷ os) o (inr later) is = by x.place (by-there os o later is)
+    where
+      by : (at : Place) → IsIn (row_by cs table o (is_immune true o.place)) (rows_by cs table os) → IsIn (row_by cs table o (is_immune true o.place)) (with_row_by cs table x at (rows_by cs table os))
+      by (place.Image spot) there = there
+      by (place.Zygote spot) there = there
+      by place.Young there = there
+      by place.Large there = inr there
+      by place.Promoted there = inr there
+
+  -- and each row has the slot of its address
+  pub by-slot : (os : List Object) (row : LargeRow) → IsIn row (rows_by cs table os) → row.slot ≡ slot_in (table row.number)
+  by-slot [] row none = absurd none
+  by-slot (x ∷ os) row there = by x.place there (by-slot os row)
+    where
+      by : (at : Place) → IsIn row (with_row_by cs table x at (rows_by cs table os)) → (IsIn row (rows_by cs table os) → row.slot ≡ slot_in (table row.number)) → row.slot ≡ slot_in (table row.number)
+      by (place.Image spot) there rest = rest there
+      by (place.Zygote spot) there rest = rest there
+      by place.Young there rest = rest there
+      by place.Large (inl e) rest = subst (λ (r : LargeRow). r.slot ≡ slot_in (table r.number)) e refl
+      by place.Large (inr later) rest = rest later
+      by place.Promoted (inl e) rest = subst (λ (r : LargeRow). r.slot ≡ slot_in (table r.number)) e refl
+      by place.Promoted (inr later) rest = rest later
+
+  -- there are as many as there are large objects
+  pub by-count : (k : ℕ) (os : List Object) → large_count k os ≡ k + length (rows_by cs table os)
+  by-count k [] = omega arith
+  by-count k (x ∷ os) = by x.place (λ n. by-count n os)
+    where
+      by : (at : Place) → ((n : ℕ) → large_count n os ≡ n + length (rows_by cs table os)) → large_count (large_behind k at) os ≡ k + length (with_row_by cs table x at (rows_by cs table os))
+      by (place.Image spot) rest = rest k
+      by (place.Zygote spot) rest = rest k
+      by place.Young rest = rest k
+      by place.Large rest = omega (arith, rest (k + 1))
+      by place.Promoted rest = omega (arith, rest (k + 1))
+
+  -- a test of the rows is one of their objects
+  pub rows-kept : (stays : LargeRow → Bool) (keep : Object → Bool) (kept : List ℕ) (os : List Object)
+      → ((o : Object) → IsIn o os → has_slot o.place ≡ true → stays (row_by cs table o (is_immune true o.place)) ≡ keep o)
+      → filter stays (rows_by cs table os) ≡ rows_by cs table (map (cleared kept) (filter keep os))
+  rows-kept stays keep kept [] each = refl
+  rows-kept stays keep kept (x ∷ os) each =
+      by x.place (keep x) (each x (inl refl)) (rows-kept stays keep kept os (λ o there. each o (inr there))) ∙ sym (spread (keep x))
+    where
+      spread : (b : Bool) → rows_by cs table (map (cleared kept) (cond b (x ∷ filter keep os) (filter keep os)))
+          ≡ cond b (with_row_by cs table x x.place (rows_by cs table (map (cleared kept) (filter keep os)))) (rows_by cs table (map (cleared kept) (filter keep os)))
+      spread true = same x.place
+        where
+          same : (at : Place) → with_row_by cs table (cleared kept x) at (rows_by cs table (map (cleared kept) (filter keep os))) ≡ with_row_by cs table x at (rows_by cs table (map (cleared kept) (filter keep os)))
+          same (place.Image spot) = refl
+          same (place.Zygote spot) = refl
+          same place.Young = refl
+          same place.Large = refl
+          same place.Promoted = refl
+      spread false = refl
+
+      one : (row : LargeRow) (b : Bool) → stays row ≡ b → filter stays (rows_by cs table os) ≡ rows_by cs table (map (cleared kept) (filter keep os))
+          → cond (stays row) (row ∷ filter stays (rows_by cs table os)) (filter stays (rows_by cs table os))
+          ≡ cond b (row ∷ rows_by cs table (map (cleared kept) (filter keep os))) (rows_by cs table (map (cleared kept) (filter keep os)))
+      one row b is rest = ap (λ c. cond c (row ∷ filter stays (rows_by cs table os)) (filter stays (rows_by cs table os))) is ∙ ap (λ rows. cond b (row ∷ rows) rows) rest
+
+      both : (b : Bool) (rows others : List LargeRow) → rows ≡ others → rows ≡ cond b others others
+      both true rows others same = same
+      both false rows others same = same
+
+      by : (at : Place) (b : Bool) → (has_slot at ≡ true → stays (row_by cs table x (is_immune true at)) ≡ b) → filter stays (rows_by cs table os) ≡ rows_by cs table (map (cleared kept) (filter keep os))
+          → filter stays (with_row_by cs table x at (rows_by cs table os))
+          ≡ cond b (with_row_by cs table x at (rows_by cs table (map (cleared kept) (filter keep os)))) (rows_by cs table (map (cleared kept) (filter keep os)))
+      by (place.Image spot) b is rest = both b _ _ rest
+      by (place.Zygote spot) b is rest = both b _ _ rest
+      by place.Young b is rest = both b _ _ rest
+      by place.Large b is rest = one (row_by cs table x false) b (is refl) rest
+      by place.Promoted b is rest = one (row_by cs table x true) b (is refl) rest
