@@ -71,7 +71,7 @@ numbers-from most ks within apart = (
 )
 
 -- a slot's address
-slot-back : (at : Place) (a : ℕ) → has_slot at ≡ true → IsPlacedAt at a → slot_base (slot_in a) ≡ a
+pub slot-back : (at : Place) (a : ℕ) → has_slot at ≡ true → IsPlacedAt at a → slot_base (slot_in a) ≡ a
 slot-back (place.Image spot) a is p = absurd (true≢false (sym is))
 slot-back (place.Zygote spot) a is p = absurd (true≢false (sym is))
 slot-back place.Young a is p = absurd (true≢false (sym is))
@@ -122,7 +122,7 @@ module _ (h : HeapState) (old new : Memory) (t : ℕ) (homes : Homes) (g : Graph
   old-rows : h.rows ≡ rows_by g.classes table g.objects
   old-rows = k.stands.rows ∙ rows-are-by homes g.classes table 0 g.next 0 0 g.objects k.formed.numbers (λ o there. refl)
 
-  old-are : AreRows h.rows
+  pub old-are : AreRows h.rows
   old-are = subst AreRows (sym k.stands.rows) (are-rows homes g k.formed k.house)
 
   -- a row stays where its object is kept
@@ -142,7 +142,7 @@ module _ (h : HeapState) (old new : Memory) (t : ℕ) (homes : Homes) (g : Graph
         | inr free ↦ inr (subst (IsReached h (raws_of homes g)) (sym back) ((reached-same h old t homes g k o there).0 (sym (ap (λ b. b || is_among (reached g) o.number) free) ∙ e, free)))
       ]))
 
-  rows-by-is : rows ≡ rows_by g.classes table left.objects
+  pub rows-by-is : rows ≡ rows_by g.classes (table_of homes g) (collect g).objects
   rows-by-is = c.rows_left.rows_are ∙ ap (filter c.rows_left.stays) old-rows ∙ rows-kept g.classes table c.rows_left.stays (keeps g) kept g.objects stays-is
 
   -- the rows are those of the collected graph

@@ -5,3 +5,4 @@ pub mod Reach
 pub mod Young
 pub mod Packed
 pub mod Left
+pub mod Turned

@@ -81,7 +81,7 @@ not-true : (b : Bool) → not b ≡ false → b ≡ true
 not-true true e = refl
 not-true false e = absurd (true≢false e)
 
-held-one : (hs : List Held) (n : ℕ) → IsIn (held.Object n) hs → is_among (held_targets hs) n ≡ true
+pub held-one : (hs : List Held) (n : ℕ) → IsIn (held.Object n) hs → is_among (held_targets hs) n ≡ true
 held-one [] n none = absurd none
 held-one (x ∷ hs) n (inl e) = subst (λ (y : Held). is_among (with_target (slot_of y) (held_targets hs)) n ≡ true) (sym e) (ap (λ b. b || is_among (held_targets hs) n) (eq-eqb n n refl))
 held-one (x ∷ hs) n (inr later) = target_later (slot_of x) (held_targets hs) n (held-one hs n later)
