@@ -6,3 +6,5 @@ pub mod Young
 pub mod Packed
 pub mod Left
 pub mod Turned
+pub mod Pages
+pub mod Held
