@@ -8,3 +8,4 @@ pub mod Left
 pub mod Turned
 pub mod Pages
 pub mod Held
+pub mod Can
