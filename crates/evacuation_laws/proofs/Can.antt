@@ -57,7 +57,7 @@ use Rattle.object_collection.specs.Collects.{AreLarge, AreSlotsOut, AreYoung, Ca
 use Rattle.evacuation_laws.specs.Stands.{home_of, raws_of, row_of, rows_from, young_homes, KeepsGraph}
 use Rattle.evacuation_laws.proofs.Members.{all-from, contains-in, in-contains, map-same, map-twice}
 use Rattle.evacuation_laws.proofs.Pages.{large-pages, region-pages}
-use Rattle.evacuation_laws.proofs.Reach.{held-one, numbered, object-at, raw-there, target-in, ObjectAt}
+use Rattle.evacuation_laws.proofs.Found.{held-one, numbered, object-at, raw-there, target-in, ObjectAt}
 use Rattle.evacuation_laws.proofs.Rows.{object-there}
 use Rattle.evacuation_laws.proofs.Stand.{are-rows, in-large-is, in-regions-is, row-at, stand, Stand}
 
@@ -105,10 +105,10 @@ module _ (h : HeapState) (m : Memory) (t : ℕ) (homes : Homes) (g : Graph) (k :
   filled-is : filled (lists_of h.regions) ≡ in_use
   filled-is = ap (λ (rs : List Row). h.regions.in_use ++ rs) k.stands.no_from ∙ append-nil h.regions.in_use
 
-  raw-at : (a : ℕ) → raws.has a ≡ true → (o : ObjectAt h m t homes g k a) × (raws.raw a ≡ raw_under table o.object)
+  raw-at : (a : ℕ) → raws.has a ≡ true → (o : ObjectAt homes g k.formed k.house a) × (raws.raw a ≡ raw_under table o.object)
   raw-at a has =
-      let it = object-at h m t homes g k a has in
-      (it, ap raws.raw (sym it.at_is) ∙ (raw-there h m t homes g k it.object it.is_in).1)
+      let it = object-at homes g k.formed k.house a has in
+      (it, ap raws.raw (sym it.at_is) ∙ (raw-there homes g k.formed k.house it.object it.is_in).1)
 
   size-is : (a : ℕ) (has : raws.has a ≡ true) → raw_size h.classes raws a ≡ size_of_object g.classes (raw-at a has).0.object
   size-is a has = ap (λ cs. raw_size cs raws a) k.stands.classes ∙ ap (λ (r : Raw). size_in g.classes r.shape) (raw-at a has).1
@@ -170,7 +170,7 @@ module _ (h : HeapState) (m : Memory) (t : ℕ) (homes : Homes) (g : Graph) (k :
   sizes-are : young_sizes g ≡ sizes_at h.classes raws (young_homes homes g)
   sizes-are =
       map-same (size_of_object g.classes) (λ (o : Object). raw_size g.classes raws (table o.number)) (young_objects g)
-      (λ o there. sym (ap (λ (r : Raw). size_in g.classes r.shape) (raw-there h m t homes g k o (in-filter (λ (o : Object). is_young o.place) g.objects o there).0).1))
+      (λ o there. sym (ap (λ (r : Raw). size_in g.classes r.shape) (raw-there homes g k.formed k.house o (in-filter (λ (o : Object). is_young o.place) g.objects o there).0).1))
       ∙ sym (map-twice (λ (a : Addr). raw_size g.classes raws a.0) (home_of table) (young_objects g))
       ∙ ap (λ cs. sizes_at cs raws (young_homes homes g)) (sym k.stands.classes)
 
@@ -185,9 +185,9 @@ module _ (h : HeapState) (m : Memory) (t : ℕ) (homes : Homes) (g : Graph) (k :
           let is = in-filter (λ (o : Object). is_young o.place) g.objects o from.1 in
           let at : table o.number ≡ a = ap (λ (b : Addr). b.0) from.2 ∙ it.2 in
           subst (λ n. (raws.has n ≡ true) × (in_regions n ≡ true)) at
-          ((raw-there h m t homes g k o is.0).0, in-regions-is homes g k.formed k.house o is.0 ∙ is.1)),
+          ((raw-there homes g k.formed k.house o is.0).0, in-regions-is homes g k.formed k.house o is.0 ∙ is.1)),
       (λ it.
-          let n = object-at h m t homes g k a it.0 in
+          let n = object-at homes g k.formed k.house a it.0 in
           let o : Object = n.object in
           let young : is_young o.place ≡ true = sym (in-regions-is homes g k.formed k.house o n.is_in) ∙ ap in_regions n.at_is ∙ it.1 in
           in-contains (addresses (young_homes homes g)) a (subst (λ b. IsIn b (addresses (young_homes homes g))) n.at_is
@@ -217,12 +217,12 @@ module _ (h : HeapState) (m : Memory) (t : ℕ) (homes : Homes) (g : Graph) (k :
         let it = object-there g.classes homes 0 g.next 0 0 g.objects k.formed.numbers row (subst (IsIn row) k.stands.rows (contains-in h.rows row c)) in
         let o : Object = it.object in
         let at : table o.number ≡ slot_base row.slot = it.at_is ∙ ap (λ (r : LargeRow). slot_base r.slot) it.row_is in
-        let raw = raw-there h m t homes g k o it.is_in in
+        let raw = raw-there homes g k.formed k.house o it.is_in in
         (subst (λ a. raws.has a ≡ true) at raw.0,
         ap (λ cs. raw_size cs raws (slot_base row.slot)) k.stands.classes ∙ ap (λ a. raw_size g.classes raws a) (sym at) ∙ ap (λ (r : Raw). size_in g.classes r.shape) raw.1
         ∙ ap (λ (r : LargeRow). next_multiple 8 r.bytes) it.row_is);
     only = λ a has inside.
-        let it = object-at h m t homes g k a has in
+        let it = object-at homes g k.formed k.house a has in
         let slot : has_slot it.object.place ≡ true = sym (in-large-is homes g k.formed k.house it.object it.is_in) ∙ ap in_large it.at_is ∙ inside in
         let row = row-at homes g k.formed k.house it.object it.is_in slot in
         ap (λ rs. is_some (row_at rs a)) k.stands.rows ∙ ap (λ b. is_some (row_at rows b)) (sym it.at_is) ∙ ap is_some row.1;
@@ -242,8 +242,8 @@ module _ (h : HeapState) (m : Memory) (t : ℕ) (homes : Homes) (g : Graph) (k :
       by : (x : Held) → r.holds ≡ x → IsFound raws (root_address table x)
       by held.Null e = found-null
       by (held.Object n) e =
-          let it = numbered h m t homes g k n (k.formed.closed.roots n (held-one (map (λ r. r.holds) g.roots) n (subst (λ (x : Held). IsIn x (map (λ r. r.holds) g.roots)) e (map-in (λ r. r.holds) g.roots r there)))) in
-          subst (λ j. IsFound raws (table j)) it.2 (found-there (table it.0.number) (raw-there h m t homes g k it.0 it.1).0)
+          let it = numbered homes g k.formed k.house n (k.formed.closed.roots n (held-one (map (λ r. r.holds) g.roots) n (subst (λ (x : Held). IsIn x (map (λ r. r.holds) g.roots)) e (map-in (λ r. r.holds) g.roots r there)))) in
+          subst (λ j. IsFound raws (table j)) it.2 (found-there (table it.0.number) (raw-there homes g k.formed k.house it.0 it.1).0)
 
   held-there : (o : Object) (p : FieldAt) → IsIn o g.objects → IsIn p (places_of g.classes o.shape) → p.kind ≡ Ref → IsHeld raws (value_in table o p)
   held-there o p there within kind = by (value_at o.slots p) refl (subst (λ x. FitsKind x (value_at o.slots p)) kind (value-fits g o p k.formed there within))
@@ -252,12 +252,12 @@ module _ (h : HeapState) (m : Memory) (t : ℕ) (homes : Homes) (g : Graph) (k :
       by (content.Number z) e fit = absurd (true≢false (sym fit))
       by content.Null e fit = record { address = 0; is = refl; below = omega arith; found = found-null }
       by (content.Object n) e fit =
-          let it = target-in h m t homes g k o p n there e in
+          let it = target-in homes g k.formed k.house o p n there e in
           record {
             address = table n;
             is = refl;
             below = (fits homes g k.formed k.house).below n;
-            found = subst (λ j. IsFound raws (table j)) it.2 (found-there (table it.0.number) (raw-there h m t homes g k it.0 it.1).0);
+            found = subst (λ j. IsFound raws (table j)) it.2 (found-there (table it.0.number) (raw-there homes g k.formed k.house it.0 it.1).0);
           }
 
   pub can : CanCollect h m t (raws_of homes g)

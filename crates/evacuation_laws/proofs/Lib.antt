@@ -1,6 +1,7 @@
 pub mod Members
 pub mod Rows
 pub mod Stand
+pub mod Found
 pub mod Reach
 pub mod Young
 pub mod Packed

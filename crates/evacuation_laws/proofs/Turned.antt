@@ -46,7 +46,8 @@ use Rattle.evacuation_laws.specs.Stands.{home_of, homes_in, raws_of, row_of, row
 use Rattle.evacuation_laws.proofs.Left.{formed, housed, moved-is, old-are, packed, rows-by-is, rows-is, slot-back, young-is}
 use Rattle.evacuation_laws.proofs.Members.{in-contains, map-same, map-twice}
 use Rattle.evacuation_laws.proofs.Packed.{by-slot, slot_in}
-use Rattle.evacuation_laws.proofs.Reach.{held-one, mortal, numbered, raw-there, reached-same}
+use Rattle.evacuation_laws.proofs.Found.{held-one, numbered, raw-there}
+use Rattle.evacuation_laws.proofs.Reach.{mortal, reached-same}
 use Rattle.evacuation_laws.proofs.Rows.{row-there}
 use Rattle.evacuation_laws.proofs.Stand.{in-regions-is}
 use Rattle.evacuation_laws.proofs.Young.{there-kept, young-collected}
@@ -182,13 +183,13 @@ module _ (h : HeapState) (old new : Memory) (t : ℕ) (homes : Homes) (g : Graph
     kept = go-kept;
     dead = λ o there gone.
         let parts = or-false (is_immune g.sealed o.place) (is_among (reached g) o.number) gone in
-        c.leads.dead (table o.number) (raw-there h old t homes g k o there).0 (mortal h old t homes g k o there ∙ ap not parts.0)
+        c.leads.dead (table o.number) (raw-there homes g k.formed k.house o there).0 (mortal h old t homes g k o there ∙ ap not parts.0)
         (λ r. true≢false (sym ((reached-same h old t homes g k o there).1 r).0 ∙ parts.1));
   }
 
   is-kept : (o : Object) → IsIn o g.objects → keeps g o ≡ true → IsKept h (raws_of homes g) (table o.number)
   is-kept o there keep = record {
-    has = (raw-there h old t homes g k o there).0;
+    has = (raw-there homes g k.formed k.house o there).0;
     stays = elim (cases_Bool (is_immune g.sealed o.place)) [
       | inl immune ↦ inl (mortal h old t homes g k o there ∙ ap not immune)
       | inr free ↦ inr ((reached-same h old t homes g k o there).0 (among-of o keep free, free))
@@ -199,7 +200,7 @@ module _ (h : HeapState) (old new : Memory) (t : ℕ) (homes : Homes) (g : Graph
   turned o there keep =
       let is = is-kept o there keep in
       let to = go-kept o there keep in
-      let raw = (raw-there h old t homes g k o there).1 in
+      let raw = (raw-there homes g k.formed k.house o there).1 in
       let one : SameRaw g.classes (led c.go ((raws_of homes g).raw (table o.number))) (c.now.raw (c.go (table o.number))) =
           subst (λ cs. SameRaw cs (led c.go ((raws_of homes g).raw (table o.number))) (c.now.raw (c.go (table o.number)))) k.stands.classes (c.left.same (table o.number) is) in
       let two : SameRaw g.classes (led c.go (raw_under table o)) (c.now.raw (c.go (table o.number))) =
@@ -221,7 +222,7 @@ module _ (h : HeapState) (old new : Memory) (t : ℕ) (homes : Homes) (g : Graph
       by : (x : Held) → r.holds ≡ x → c.go (root_address table x) ≡ root_address next x
       by held.Null e = go-null
       by (held.Object n) e =
-          let it = numbered h old t homes g k n (k.formed.closed.roots n (held-one (map (λ r. r.holds) g.roots) n (subst (λ (x : Held). IsIn x (map (λ r. r.holds) g.roots)) e (map-in (λ r. r.holds) g.roots r there)))) in
+          let it = numbered homes g k.formed k.house n (k.formed.closed.roots n (held-one (map (λ r. r.holds) g.roots) n (subst (λ (x : Held). IsIn x (map (λ r. r.holds) g.roots)) e (map-in (λ r. r.holds) g.roots r there)))) in
           let q : Object = it.0 in
           let rooted : r.holds ≡ held.Object q.number = e ∙ ap (λ m. held.Object m) (sym it.2) in
           let among : is_among (reached g) q.number ≡ true = (reached-is g q.number).1 ((q, it.1, refl), ([], inl (r, there, rooted))) in

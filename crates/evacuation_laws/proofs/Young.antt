@@ -36,7 +36,8 @@ use Rattle.object_moves.specs.Copies.{sizes_at}
 use Rattle.object_collection.specs.Collects.{HeapState, IsReached}
 use Rattle.evacuation_laws.specs.Stands.{home_of, raws_of, young_homes, KeepsGraph}
 use Rattle.evacuation_laws.proofs.Members.{all-from, contains-in, filter-swap, in-contains, map-same, map-twice}
-use Rattle.evacuation_laws.proofs.Reach.{node-at, raw-there, reached-same, NodeAt}
+use Rattle.evacuation_laws.proofs.Found.{raw-there}
+use Rattle.evacuation_laws.proofs.Reach.{node-at, reached-same, NodeAt}
 use Rattle.evacuation_laws.proofs.Stand.{in-regions-is}
 
 -- the numbers of those elements of another list that pass a test
@@ -184,6 +185,6 @@ module _ (h : HeapState) (m : Memory) (t : ℕ) (homes : Homes) (g : Graph) (k :
   pub sizes-collected : sizes_at g.classes (raws_of homes g) (map (home_of (table_of homes g)) (filter (keeps g) (young_objects g))) ≡ young_sizes (collect g)
   sizes-collected =
       map-twice (λ (a : Addr). raw_size g.classes (raws_of homes g) a.0) (home_of table) kept_young
-      ∙ map-same _ (size_of_object g.classes) kept_young (λ o there. ap (λ (r : Raw). size_in g.classes r.shape) (raw-there h m t homes g k o (kept-there o there).is_in).1)
+      ∙ map-same _ (size_of_object g.classes) kept_young (λ o there. ap (λ (r : Raw). size_in g.classes r.shape) (raw-there homes g k.formed k.house o (kept-there o there).is_in).1)
       ∙ sym (map-twice (size_of_object g.classes) (cleared (numbers (filter (keeps g) g.objects))) kept_young)
       ∙ sym (ap (map (size_of_object g.classes)) young-collected)
