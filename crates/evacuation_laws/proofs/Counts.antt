@@ -9,10 +9,11 @@ use Rattle.heap_graph.specs.declared.names.Place.TheVariants as place
 use Rattle.heap_graph.specs.Collection.{cleared, collect, freed_count, is_kept, loose_count}
 use Rattle.heap_graph.specs.Graph.{is_immune, is_young, Graph, Object}
 use Rattle.heap_graph.specs.Reach.{is_among, reached}
-use Rattle.address_table.specs.Computed.{large_behind}
+use Rattle.address_table.specs.Computed.{large_behind, Homes}
 use Rattle.large_objects.specs.declared.rows.LargeRow.{LargeRow}
 use Rattle.large_objects.specs.Rows.{waits}
-use Rattle.evacuation_laws.specs.Stands.{rows_from, with_row}
+use Rattle.object_collection.specs.Collects.{HeapState}
+use Rattle.evacuation_laws.specs.Stands.{rows_from, with_row, StandsFor}
 
 -- the object isn't immune once the image is sealed
 abbrev is_loose : Object → Bool
@@ -38,7 +39,7 @@ loose-parts cs slots k (o ∷ os) = by o.place (loose-parts cs slots (large_behi
     by place.Large rest = omega (arith, rest)
     by place.Promoted rest = rest
 
-pub loose-rows : (cs : List Class) (slots : List ℕ) (os : List Object) → count_by is_loose os ≡ length (filter is_young_one os) + length (filter waits (rows_from cs slots 0 os))
+loose-rows : (cs : List Class) (slots : List ℕ) (os : List Object) → count_by is_loose os ≡ length (filter is_young_one os) + length (filter waits (rows_from cs slots 0 os))
 loose-rows cs slots os = sym (length-filter is_loose os) ∙ loose-parts cs slots 0 os
 
 -- a collection removes none but these
@@ -86,3 +87,9 @@ pub freed-loose : (g : Graph) → g.sealed ≡ true → freed_count g (collect g
 freed-loose g is =
     subst (λ (sealed : Bool). (length g.objects - length (left sealed (reached g) g.objects)) + count_by (λ (o : Object). not (is_immune sealed o.place)) (left sealed (reached g) g.objects)
     ≡ count_by (λ (o : Object). not (is_immune sealed o.place)) g.objects) (sym is) (freed-left (reached g) g.objects)
+
+pub loose-counted : (h : HeapState) (homes : Homes) (g : Graph) → g.sealed ≡ true → StandsFor h g homes → loose_count g ≡ h.regions.objects + length (filter waits h.rows)
+loose-counted h homes g is stands =
+    let rows = ap (λ (rs : List LargeRow). length (filter waits rs)) stands.rows in
+    subst (λ (sealed : Bool). count_by (λ (o : Object). not (is_immune sealed o.place)) g.objects ≡ h.regions.objects + length (filter waits h.rows)) (sym is)
+    (omega (arith, loose-rows g.classes homes.slots g.objects, rows, stands.objects))

@@ -1,5 +1,14 @@
 pub mod Members
 pub mod Rows
 pub mod Stand
+pub mod Found
 pub mod Reach
 pub mod Counts
+pub mod Young
+pub mod Packed
+pub mod Left
+pub mod Turned
+pub mod Pages
+pub mod Held
+pub mod Can
+pub mod Outcomes

@@ -45,6 +45,7 @@ use Rattle.live_objects.specs.Live.{addresses}
 use Rattle.live_objects.specs.Reach.{is_mortal, is_node, is_strong, starts_of, Holds, Path, Reached}
 use Rattle.object_collection.specs.Collects.{HeapState, IsReached, LeadsOut}
 use Rattle.evacuation_laws.specs.Stands.{raws_of, rows_from, KeepsGraph}
+use Rattle.evacuation_laws.proofs.Found.{held-one, null-not, numbered, object-at, raw-there, target}
 use Rattle.evacuation_laws.proofs.Members.{contains-in, in-contains}
 use Rattle.evacuation_laws.proofs.Stand.{mortal-is}
 
@@ -81,36 +82,12 @@ not-true : (b : Bool) → not b ≡ false → b ≡ true
 not-true true e = refl
 not-true false e = absurd (true≢false e)
 
-held-one : (hs : List Held) (n : ℕ) → IsIn (held.Object n) hs → is_among (held_targets hs) n ≡ true
-held-one [] n none = absurd none
-held-one (x ∷ hs) n (inl e) = subst (λ (y : Held). is_among (with_target (slot_of y) (held_targets hs)) n ≡ true) (sym e) (ap (λ b. b || is_among (held_targets hs) n) (eq-eqb n n refl))
-held-one (x ∷ hs) n (inr later) = target_later (slot_of x) (held_targets hs) n (held-one hs n later)
-
 module _ (h : HeapState) (m : Memory) (t : ℕ) (homes : Homes) (g : Graph) (keeps : KeepsGraph h m t homes g) where
   abbrev table : ℕ → ℕ
   table = table_of homes g
 
   abbrev raws : Raws
   raws = raws_of homes g
-
-  -- the raw object at an object's address
-  pub raw-there : (o : Object) → IsIn o g.objects → ((raws_of homes g).has (table_of homes g o.number) ≡ true) × ((raws_of homes g).raw (table_of homes g o.number) ≡ raw_under (table_of homes g) o)
-  raw-there o there = graph-fits g.classes table g.objects (fits homes g keeps.formed keeps.house).apart o there
-
-  -- the object of a raw one
-  pub record ObjectAt (a : ℕ) : Type 0 where
-    pub object : Object
-    pub is_in : IsIn object g.objects
-    pub at_is : table_of homes g object.number ≡ a
-
-  pub object-at : (a : ℕ) → (raws_of homes g).has a ≡ true → ObjectAt a
-  object-at a has =
-      let it = found (is_at table a) g.objects has in
-      let o : Object = object_on table g.objects a in
-      record { object = o; is_in = it.0; at_is = eqb-true (table o.number) a it.1 }
-
-  pub null-not : (raws_of homes g).has 0 ≡ true → ⊥
-  null-not has = let it = object-at 0 has in object-not-null homes g keeps.formed keeps.house it.object it.is_in it.at_is
 
   -- an object is mortal where it isn't immune
   pub mortal : (o : Object) → IsIn o g.objects → is_mortal h.rows (table_of homes g o.number) ≡ not (is_immune g.sealed o.place)
@@ -119,7 +96,7 @@ module _ (h : HeapState) (m : Memory) (t : ℕ) (homes : Homes) (g : Graph) (kee
       ∙ ap (λ b. not (is_immune b o.place)) (sym keeps.is_sealed)
 
   pub is-node : (o : Object) → IsIn o g.objects → is_immune g.sealed o.place ≡ false → is_node h.rows (raws_of homes g) (table_of homes g o.number) ≡ true
-  is-node o there free = and_from _ _ (raw-there o there).0 (mortal o there ∙ ap not free)
+  is-node o there free = and_from _ _ (raw-there homes g keeps.formed keeps.house o there).0 (mortal o there ∙ ap not free)
 
   -- an object that isn't immune
   pub record NodeAt (a : ℕ) : Type 0 where
@@ -131,41 +108,13 @@ module _ (h : HeapState) (m : Memory) (t : ℕ) (homes : Homes) (g : Graph) (kee
   pub node-at : (a : ℕ) → is_node h.rows (raws_of homes g) a ≡ true → NodeAt a
   node-at a node =
       let parts = and_parts (raws.has a) (is_mortal h.rows a) node in
-      let it = object-at a parts.0 in
+      let it = object-at homes g keeps.formed keeps.house a parts.0 in
       record {
         object = it.object;
         is_in = it.is_in;
         at_is = it.at_is;
         free = not-flips _ (sym (mortal it.object it.is_in) ∙ subst (λ b. is_mortal h.rows b ≡ true) (sym it.at_is) parts.1);
       }
-
-  -- an object of the number
-  pub numbered : (n : ℕ) → is_among (numbers g.objects) n ≡ true → (o : Object) × IsIn o g.objects × (o.number ≡ n)
-  numbered n is =
-      let it = any-from (λ o. nat_eq n o.number) g.objects (sym (any-map (λ o. o.number) (nat_eq n) g.objects) ∙ is) in
-      (it.0, it.1, sym (eqb-true n it.0.number it.2))
-
-  pub target-in : (o : Object) (p : FieldAt) (n : ℕ) → IsIn o g.objects → value_at o.slots p ≡ content.Object n → (q : Object) × IsIn q g.objects × (q.number ≡ n)
-  target-in o p n there is =
-      numbered n (keeps.formed.closed.slots n (any-flat_map (λ q. targets q.slots) (nat_eq n) g.objects ∙ any-to (λ q. is_among (targets q.slots) n) g.objects o there (held-target o.slots p n is)))
-
-  -- what a reference leads to
-  pub record Target (o : Object) (p : FieldAt) (b : ℕ) : Type 0 where
-    pub object : Object
-    pub is_in : IsIn object g.objects
-    pub at_is : table_of homes g object.number ≡ b
-    pub value_is : value_at o.slots p ≡ content.Object object.number
-
-  pub target : (o : Object) (p : FieldAt) (b : ℕ) → IsIn o g.objects → IsIn p (places_of g.classes o.shape) → p.kind ≡ Ref → value_in (table_of homes g) o p ≡ pos b → (raws_of homes g).has b ≡ true → Target o p b
-  target o p b there within kind value has = by (value_at o.slots p) refl value (subst (λ k. FitsKind k (value_at o.slots p)) kind (value-fits g o p keeps.formed there within))
-    where
-      by : (s : Content) → value_at o.slots p ≡ s → seen_value table s ≡ pos b → FitsKind Ref s → Target o p b
-      by (content.Number z) e is fit = absurd (true≢false (sym fit))
-      by content.Null e is fit = let zero_is : 0 ≡ b = cc in absurd (null-not (subst (λ c. raws.has c ≡ true) (sym zero_is) has))
-      by (content.Object n) e is fit =
-          let same : table n ≡ b = cc in
-          let it = target-in o p n there e in
-          record { object = it.0; is_in = it.1; at_is = ap table it.2 ∙ same; value_is = e ∙ ap (λ k. content.Object k) (sym it.2) }
 
   -- a strong slot, and its place
   strong-place : (o : Object) (n : ℕ) → IsIn o g.objects → (strong : HoldsStrongly o n) → IsIn strong.0.at (places_of g.classes o.shape) × (strong.0.at.kind ≡ Ref) × (value_in table o strong.0.at ≡ pos (table n))
@@ -186,7 +135,7 @@ module _ (h : HeapState) (m : Memory) (t : ℕ) (homes : Homes) (g : Graph) (kee
   holds-from : (o q : Object) → IsIn o g.objects → IsIn q g.objects → is_immune g.sealed q.place ≡ false → HoldsStrongly o q.number → Holds g.classes h.rows raws (table o.number) (table q.number)
   holds-from o q o_in q_in free strong =
       let it = strong-place o q.number o_in strong in
-      let raw = (raw-there o o_in).1 in
+      let raw = (raw-there homes g keeps.formed keeps.house o o_in).1 in
       record {
         place = strong.0.at;
         is_in = subst (λ (r : Raw). IsIn strong.0.at (places_of g.classes r.shape)) (sym raw) it.0;
@@ -198,11 +147,11 @@ module _ (h : HeapState) (m : Memory) (t : ℕ) (homes : Homes) (g : Graph) (kee
 
   holds-to : (o : Object) (b : ℕ) → IsIn o g.objects → Holds g.classes h.rows raws (table o.number) b → (n : NodeAt b) × HoldsStrongly o n.object.number
   holds-to o b there it =
-      let raw = (raw-there o there).1 in
+      let raw = (raw-there homes g keeps.formed keeps.house o there).1 in
       let within : IsIn it.place (places_of g.classes o.shape) = subst (λ (r : Raw). IsIn it.place (places_of g.classes r.shape)) raw it.is_in in
       let node = node-at b it.node in
       let has : raws.has b ≡ true = (and_parts (raws.has b) (is_mortal h.rows b) it.node).0 in
-      let to = target o it.place b there within it.kind_is (sym (ap (λ (r : Raw). r.values it.place) raw) ∙ it.target_is) has in
+      let to = target homes g keeps.formed keeps.house o it.place b there within it.kind_is (sym (ap (λ (r : Raw). r.values it.place) raw) ∙ it.target_is) has in
       let same : to.object ≡ node.object = (fits homes g keeps.formed keeps.house).apart to.object node.object to.is_in node.is_in (to.at_is ∙ sym node.at_is) in
       (node, subst (λ (q : Object). HoldsStrongly o q.number) same (holds-strongly o it.place to.object.number there within it.strong to.value_is))
 
@@ -218,9 +167,9 @@ module _ (h : HeapState) (m : Memory) (t : ℕ) (homes : Homes) (g : Graph) (kee
   root-target r b there is has = by r.holds refl is
     where
       by : (x : Held) → r.holds ≡ x → root_address table x ≡ b → (q : Object) × IsIn q g.objects × (table q.number ≡ b) × (r.holds ≡ held.Object q.number)
-      by held.Null e is = absurd (null-not (subst (λ c. raws.has c ≡ true) (sym is) has))
+      by held.Null e is = absurd (null-not homes g keeps.formed keeps.house (subst (λ c. raws.has c ≡ true) (sym is) has))
       by (held.Object n) e is =
-          let it = numbered n (keeps.formed.closed.roots n (held-one (map (λ r. r.holds) g.roots) n (subst (λ (x : Held). IsIn x (map (λ r. r.holds) g.roots)) e (map-in (λ r. r.holds) g.roots r there)))) in
+          let it = numbered homes g keeps.formed keeps.house n (keeps.formed.closed.roots n (held-one (map (λ r. r.holds) g.roots) n (subst (λ (x : Held). IsIn x (map (λ r. r.holds) g.roots)) e (map-in (λ r. r.holds) g.roots r there)))) in
           (it.0, it.1, ap table it.2 ∙ is, e ∙ ap (λ k. held.Object k) (sym it.2))
 
   start-to : (b : ℕ) → Contains starts b → is_node h.rows raws b ≡ true → (n : NodeAt b) × IsStart g n.object.number
@@ -239,14 +188,14 @@ module _ (h : HeapState) (m : Memory) (t : ℕ) (homes : Homes) (g : Graph) (kee
               let slot : Slot = it.0 in
               let there = in-filter is_strong h.slots slot it.1 in
               let out = (keeps.out.exact slot).0 there.0 in
-              let from = object-at out.object out.has in
+              let from = object-at homes g keeps.formed keeps.house out.object out.has in
               let o : Object = from.object in
-              let raw : raws.raw out.object ≡ raw_under table o = ap raws.raw (sym from.at_is) ∙ (raw-there o from.is_in).1 in
+              let raw : raws.raw out.object ≡ raw_under table o = ap raws.raw (sym from.at_is) ∙ (raw-there homes g keeps.formed keeps.house o from.is_in).1 in
               let within : IsIn out.place (places_of g.classes o.shape) =
               subst (λ (r : Raw). IsIn out.place (places_of g.classes r.shape)) raw (subst (λ cs. IsIn out.place (places_of cs (raws.raw out.object).shape)) keeps.stands.classes out.is_in) in
               let immune : is_immune g.sealed o.place ≡ true = not-true _ (sym (mortal o from.is_in) ∙ ap (is_mortal h.rows) from.at_is ∙ out.immune) in
               let value : value_in table o out.place ≡ pos b = sym (ap (λ (r : Raw). r.values out.place) raw) ∙ sym out.target_is ∙ ap (λ k. pos k) it.2 in
-              let to = target o out.place b from.is_in within out.kind_is value has in
+              let to = target homes g keeps.formed keeps.house o out.place b from.is_in within out.kind_is value has in
               let weak : out.place.weak ≡ false = sym out.weak_is ∙ not-flips slot.weak there.1 in
               inr (o, from.is_in, immune, subst (λ (q : Object). HoldsStrongly o q.number) (one to.object to.is_in to.at_is) (holds-strongly o out.place to.object.number from.is_in within weak to.value_is))
         ],
@@ -258,12 +207,12 @@ module _ (h : HeapState) (m : Memory) (t : ℕ) (homes : Homes) (g : Graph) (kee
       (subst (λ ns. IsIn (table q.number) ns) (sym keeps.stands.roots) (subst (λ (x : Held). IsIn (root_address table x) (map (λ r. root_address table r.holds) g.roots)) is (map-in (λ r. root_address table r.holds) g.roots r r_in))))
   start-from q there free (inr (o, o_in, immune, strong)) =
       let it = strong-place o q.number o_in strong in
-      let raw = (raw-there o o_in).1 in
+      let raw = (raw-there homes g keeps.formed keeps.house o o_in).1 in
       let slot : Slot = record { at = record { 0 = table o.number + strong.0.at.offset }; target = record { 0 = table q.number }; weak = false } in
       let out : LeadsOut h raws slot = record {
         object = table o.number;
         place = strong.0.at;
-        has = (raw-there o o_in).0;
+        has = (raw-there homes g keeps.formed keeps.house o o_in).0;
         immune = mortal o o_in ∙ ap not immune;
         is_in = subst (λ cs. IsIn strong.0.at (places_of cs (raws.raw (table o.number)).shape)) (sym keeps.stands.classes) (subst (λ (r : Raw). IsIn strong.0.at (places_of g.classes r.shape)) (sym raw) it.0);
         kind_is = it.1;
