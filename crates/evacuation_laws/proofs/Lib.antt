@@ -10,3 +10,4 @@ pub mod Turned
 pub mod Pages
 pub mod Held
 pub mod Can
+pub mod Kept

@@ -68,7 +68,7 @@ data-free place.Young young immune = absurd (true≢false young)
 data-free place.Large young immune = refl
 data-free place.Promoted young immune = refl
 
-immune-old : (at : Place) → is_immune true at ≡ true → is_young at ≡ false
+pub immune-old : (at : Place) → is_immune true at ≡ true → is_young at ≡ false
 immune-old (place.Image spot) e = refl
 immune-old (place.Zygote spot) e = refl
 immune-old place.Young e = absurd (true≢false (sym e))

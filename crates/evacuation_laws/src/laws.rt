@@ -13,7 +13,7 @@ ghost use Rattle.object_view.specs.declared.names.Slot.{Slot};
 ghost use Rattle.address_table.specs.Computed.{table_of, Homes, HouseAll};
 ghost use Rattle.graph_pages.specs.Pages.{PagesHold};
 ghost use Rattle.object_collection.specs.Collects.{state_of, CanCollect, HeapState, IsCollected, IsReached, LeavesPages};
-ghost use Rattle.evacuation_laws.specs.Stands.{homes_in, raws_of, KeepsGraph, StandsFor};
+ghost use Rattle.evacuation_laws.specs.Stands.{homes_in, raws_of, HasSlotsOut, KeepsGraph, StandsFor};
 
 /// An object that isn't immune is reached in the graph exactly where it is reached in memory.
 pub fn reached_objects_are_reached()
@@ -35,4 +35,13 @@ pub fn collected_graphs_are_held()
         → IsCollected h new t (raws_of homes g) regions rows roots → HouseAll (homes_in regions.in_use rows) (collect g) }
     ensures stands { (h : HeapState) (old new : Memory) (t : ℕ) (homes : Homes) (g : Graph) (regions : Space) (rows : List LargeRow) (roots : List Addr) (slots : List Slot) → KeepsGraph h old t homes g
         → IsCollected h new t (raws_of homes g) regions rows roots → StandsFor (state_of h.classes regions rows roots slots) (collect g) (homes_in regions.in_use rows) }
+{}
+
+/// So the process keeps the collected graph as it kept the graph before, with the slots that are to be kept now: the next
+/// collection stands on it.
+pub fn collected_graphs_are_kept()
+    ensures { (h : HeapState) (old new : Memory) (t : ℕ) (homes : Homes) (g : Graph) (regions : Space) (rows : List LargeRow) (roots : List Addr) (slots : List Slot) → KeepsGraph h old t homes g
+        → IsCollected h new t (raws_of homes g) regions rows roots → LeavesPages h old new t
+        → HasSlotsOut (state_of h.classes regions rows roots slots) (raws_of (homes_in regions.in_use rows) (collect g))
+        → KeepsGraph (state_of h.classes regions rows roots slots) new t (homes_in regions.in_use rows) (collect g) }
 {}

@@ -3,4 +3,7 @@
 
 mod laws;
 
-pub use laws::{collected_graphs_are_held, graphs_can_be_collected, reached_objects_are_reached};
+pub use laws::{
+    collected_graphs_are_held, collected_graphs_are_kept, graphs_can_be_collected,
+    reached_objects_are_reached,
+};
