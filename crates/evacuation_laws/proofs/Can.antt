@@ -33,7 +33,7 @@ use Rattle.heap_graph.proofs.Places.{value-fits}
 use Rattle.heap_graph.proofs.Sizes.{size-least, young-packed}
 use Rattle.object_view.specs.Seen.{root_address, seen_value, value_in}
 use Rattle.raw_objects.specs.Raws.{raw_size, HoldsRaws, Raw, Raws}
-use Rattle.raw_objects.specs.References.{in_regions}
+use Rattle.raw_objects.specs.References.{in_regions, now_at}
 use Rattle.address_table.specs.Computed.{slot_at, table_of, Homes}
 use Rattle.address_table.proofs.Beside.{all-in, not-too-large, shape-in}
 use Rattle.address_table.proofs.Fitting.{fits}
@@ -264,6 +264,7 @@ module _ (h : HeapState) (m : Memory) (t : ℕ) (homes : Homes) (g : Graph) (k :
   can = record {
     held = held-regions;
     young = (young_homes homes g, are-young);
+    unmoved = λ a has inside. ap (λ (r : Raw). now_at r.header) (raw-at a has).1;
     large = are-large;
     slots = record { exact = k.out.exact; once = k.out.once; alone = k.alone.slots };
     roots = λ a c.

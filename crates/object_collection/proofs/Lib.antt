@@ -1,0 +1,5 @@
+pub mod Steps
+pub mod Facts
+pub mod Turnings
+pub mod Nulled
+pub mod Marked
