@@ -130,7 +130,7 @@ module _ (h : HeapState) (m : Memory) (t : ℕ) (homes : Homes) (g : Graph) (k :
   lies : (o : Object) → IsIn o g.objects → is_young o.place ≡ true → IsObjectIn in_use (table o.number) (size_of_object g.classes o)
   lies o there young =
       let same : map (λ (o : Object). table o.number) (young_objects g) ≡ map (address_in in_use) (places_from 0 (young_sizes g)) =
-          sym (map-twice (λ (a : Addr). a.0) (home_of table) (young_objects g)) ∙ k.stands.packed.places in
+      sym (map-twice (λ (a : Addr). a.0) (home_of table) (young_objects g)) ∙ k.stands.packed.places in
       let it = split-at g.classes (λ (o : Object). table o.number) (address_in in_use) 0 (young_objects g) o same (filter-in (λ (o : Object). is_young o.place) g.objects o there young) in
       subst (λ a. IsObjectIn in_use a (size_of_object g.classes o)) (sym it.at_is)
       (walk-lies in_use it.before it.more (size_of_object g.classes o) (in_use-filled (lists_of h.regions) k.space) (in_use-apart (lists_of h.regions) k.space)
@@ -217,10 +217,11 @@ module _ (h : HeapState) (m : Memory) (t : ℕ) (homes : Homes) (g : Graph) (k :
         let it = object-there g.classes homes 0 g.next 0 0 g.objects k.formed.numbers row (subst (IsIn row) k.stands.rows (contains-in h.rows row c)) in
         let o : Object = it.object in
         let at : table o.number ≡ slot_base row.slot = it.at_is ∙ ap (λ (r : LargeRow). slot_base r.slot) it.row_is in
-        let raw = raw-there homes g k.formed k.house o it.is_in in
-        (subst (λ a. raws.has a ≡ true) at raw.0,
-        ap (λ cs. raw_size cs raws (slot_base row.slot)) k.stands.classes ∙ ap (λ a. raw_size g.classes raws a) (sym at) ∙ ap (λ (r : Raw). size_in g.classes r.shape) raw.1
-        ∙ ap (λ (r : LargeRow). next_multiple 8 r.bytes) it.row_is);
+        let raw = raw-there homes g k.formed k.house o it.is_in in (
+          subst (λ a. raws.has a ≡ true) at raw.0,
+          ap (λ cs. raw_size cs raws (slot_base row.slot)) k.stands.classes ∙ ap (λ a. raw_size g.classes raws a) (sym at) ∙ ap (λ (r : Raw). size_in g.classes r.shape) raw.1
+              ∙ ap (λ (r : LargeRow). next_multiple 8 r.bytes) it.row_is,
+        );
     only = λ a has inside.
         let it = object-at homes g k.formed k.house a has in
         let slot : has_slot it.object.place ≡ true = sym (in-large-is homes g k.formed k.house it.object it.is_in) ∙ ap in_large it.at_is ∙ inside in
@@ -274,6 +275,6 @@ module _ (h : HeapState) (m : Memory) (t : ℕ) (homes : Homes) (g : Graph) (k :
         let it = raw-at a has in
         let o : Object = it.0.object in
         let there : IsIn p (places_of g.classes o.shape) =
-            subst (λ (r : Raw). IsIn p (places_of g.classes r.shape)) it.1 (subst (λ cs. IsIn p (places_of cs (raws.raw a).shape)) k.stands.classes within) in
+        subst (λ (r : Raw). IsIn p (places_of g.classes r.shape)) it.1 (subst (λ cs. IsIn p (places_of cs (raws.raw a).shape)) k.stands.classes within) in
         subst (IsHeld raws) (sym (ap (λ (r : Raw). r.values p) it.1)) (held-there o p it.0.is_in there kind);
   }

@@ -95,10 +95,10 @@ module _ (h : HeapState) (old new : Memory) (t : ℕ) (homes : Homes) (g : Graph
     spot-mapped w p which off_regions off_large is = leaves.mapped p
         (elim (cases_Bool (is_in window.Regions p)) [ inl inside ↦ absurd (off_regions (one-window p w window.Regions is inside)) | inr off ↦ off ])
         (elim (cases_Bool (list_any (large.holds_page p) (filter waits h.rows))) [
-        | inl held ↦
-            let are = old-are h old new t homes g regions rows roots k c in
-            absurd (off_large (one-window p w window.Large is (any-in-window p (filter waits h.rows) (All-filter waits (λ (row : LargeRow). row.slot < 512) h.rows are.within) (All-filter waits (λ (row : LargeRow). IsBytes row.bytes) h.rows are.bytes) held)))
-        | inr off ↦ off
+          | inl held ↦
+              let are = old-are h old new t homes g regions rows roots k c in
+              absurd (off_large (one-window p w window.Large is (any-in-window p (filter waits h.rows) (All-filter waits (λ (row : LargeRow). row.slot < 512) h.rows are.within) (All-filter waits (λ (row : LargeRow). IsBytes row.bytes) h.rows are.bytes) held)))
+          | inr off ↦ off
         ])
 
     window-left : (w : Window) → MapsWindow new t w g.classes next left.objects

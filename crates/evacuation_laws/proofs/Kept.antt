@@ -102,7 +102,7 @@ module _ (h : HeapState) (old new : Memory) (t : ℕ) (homes : Homes) (g : Graph
       let before : list_any (large.holds_page p) (filter waits h.rows) ≡ true = any-to (large.holds_page p) (filter waits h.rows) row (filter-in waits h.rows row was.0 here.1) it.2 in
       let are = old-are h old new t homes g regions rows roots k c in
       let inside : IsTrue (is_in window.Large p) =
-          any-in-window p (filter waits h.rows) (All-filter waits (λ (row : LargeRow). row.slot < 512) h.rows are.within) (All-filter waits (λ (row : LargeRow). IsBytes row.bytes) h.rows are.bytes) before in
+      any-in-window p (filter waits h.rows) (All-filter waits (λ (row : LargeRow). row.slot < 512) h.rows are.within) (All-filter waits (λ (row : LargeRow). IsBytes row.bytes) h.rows are.bytes) before in
       leaves.alone p (or_left _ _ (or_right (is_in window.Regions p) _ before)) (c.large_pages p inside ∙ any-to (large.holds_page p) rows row here.0 it.2)
 
   -- SLOTS
@@ -148,7 +148,7 @@ module _ (h : HeapState) (old new : Memory) (t : ℕ) (homes : Homes) (g : Graph
       let q : Object = from.object in
       let raw : (raws_of next_homes left).raw leads.object ≡ raw_under next q = ap (raws_of next_homes left).raw (sym from.at_is) ∙ (raw-there next_homes left is_formed house q from.is_in).1 in
       let within : IsIn leads.place (places_of g.classes q.shape) =
-          subst (λ (r : Raw). IsIn leads.place (places_of g.classes r.shape)) raw (subst (λ cs. IsIn leads.place (places_of cs ((raws_of next_homes left).raw leads.object).shape)) k.stands.classes leads.is_in) in
+      subst (λ (r : Raw). IsIn leads.place (places_of g.classes r.shape)) raw (subst (λ cs. IsIn leads.place (places_of cs ((raws_of next_homes left).raw leads.object).shape)) k.stands.classes leads.is_in) in
       let immune : is_immune true q.place ≡ true = not-back _ _ (sym (mortal-next q from.is_in) ∙ ap (is_mortal rows) from.at_is ∙ leads.immune) in
       let value : value_in next q leads.place ≡ pos slot.target.0 = sym (ap (λ (r : Raw). r.values leads.place) raw) ∙ sym leads.target_is in
       let b = back-in h old new t homes g regions rows roots k c q from.is_in in
@@ -163,11 +163,11 @@ module _ (h : HeapState) (old new : Memory) (t : ℕ) (homes : Homes) (g : Graph
       let y = back-in h old new t homes g regions rows roots k c x held.1 in
       let number : y.0.number ≡ x.number = ap (λ (z : Object). z.number) y.3 in
       let free : is_immune true y.0.place ≡ false =
-          ap (λ (z : Object). is_immune true z.place) y.3 ∙ not-back _ _ (sym (mortal-next x held.1) ∙ ap (is_mortal rows) held.3 ∙ leads.outside) in
+      ap (λ (z : Object). is_immune true z.place) y.3 ∙ not-back _ _ (sym (mortal-next x held.1) ∙ ap (is_mortal rows) held.3 ∙ leads.outside) in
       let within_o : IsIn leads.place (places_of g.classes o.shape) = subst (λ (s : Shape). IsIn leads.place (places_of g.classes s)) shape_is within in
       let held_o : value_at o.slots leads.place ≡ content.Object x.number =
-          held-before leads.place.weak kept (value_at o.slots leads.place) x.number
-          (sym (cleared-value g o leads.place kept k.formed b.1 within_o) ∙ ap (λ (z : Object). value_at z.slots leads.place) b.3 ∙ held.2) in
+      held-before leads.place.weak kept (value_at o.slots leads.place) x.number
+      (sym (cleared-value g o leads.place kept k.formed b.1 within_o) ∙ ap (λ (z : Object). value_at z.slots leads.place) b.3 ∙ held.2) in
       let raw_o = raw-there homes g k.formed k.house o b.1 in
       let was : Slot = record { at = record { 0 = table o.number + leads.place.offset }; target = record { 0 = table y.0.number }; weak = leads.place.weak } in
       let led : LeadsOut h (raws_of homes g) was = record {
@@ -198,7 +198,7 @@ module _ (h : HeapState) (old new : Memory) (t : ℕ) (homes : Homes) (g : Graph
       let it = stood-before slot ((out.exact slot).0 there) in
       let p : ℕ = page_of slot.at.0 in
       let any : list_any (λ (s : Slot). nat_eq (page_of s.at.0) p) h.slots ≡ true =
-          any-to (λ (s : Slot). nat_eq (page_of s.at.0) p) h.slots it.before it.is_in (eq-eqb (page_of it.before.at.0) p (ap page_of it.at_is)) in
+      any-to (λ (s : Slot). nat_eq (page_of s.at.0) p) h.slots it.before it.is_in (eq-eqb (page_of it.before.at.0) p (ap page_of it.at_is)) in
       leaves.alone p (or_right (is_in window.Regions p || list_any (large.holds_page p) (filter waits h.rows)) _ any) it.mapped
 
   pub graph-kept : KeepsGraph (state_of h.classes regions rows roots slots) new t (homes_in regions.in_use rows) (collect g)

@@ -86,8 +86,8 @@ module _ (homes : Homes) (cs : List Class) (table : ℕ → ℕ) where
   rows-are-by low next end k [] rising same = refl
   rows-are-by low next end k (x ∷ os) rising same =
       by x.place refl (λ e l at. rows-are-by (x.number + 1) next e l os rising.1 (λ o there.
-          let above = rising-in (x.number + 1) next os o rising.1 there in
-          same o (inr there) ∙ table-later homes cs end k x os o.number (omega (arith, above)) ∙ at o))
+      let above = rising-in (x.number + 1) next os o rising.1 there in
+      same o (inr there) ∙ table-later homes cs end k x os o.number (omega (arith, above)) ∙ at o))
     where
       here : table x.number ≡ address_in homes cs end k x x.place
       here = same x (inl refl) ∙ table-first homes cs end k x os

@@ -71,7 +71,7 @@ value-stored cs shape (r ∷ ss) s slots (inl e) =
     subst (λ (x : Stored). value_at (r ∷ ss) x.at ≡ x.value) e (ap (λ b. value_if b r.value (value_at ss r.at)) (eq-eqb r.at.offset r.at.offset refl))
 value-stored cs shape (r ∷ ss) s slots (inr later) =
     let other : nat_eq r.at.offset s.at.offset ≡ false = ne_eqb r.at.offset s.at.offset (λ same. true≢false (
-        sym (any-to (λ (x : Stored). nat_eq x.at.offset r.at.offset) ss s later (eq-eqb s.at.offset r.at.offset (sym same))) ∙ slots.1)) in
+    sym (any-to (λ (x : Stored). nat_eq x.at.offset r.at.offset) ss s later (eq-eqb s.at.offset r.at.offset (sym same))) ∙ slots.1)) in
     ap (λ b. value_if b r.value (value_at ss s.at)) other ∙ value-stored cs shape ss s slots.2 later
 
 not-flips : (b : Bool) → not b ≡ true → b ≡ false
@@ -176,28 +176,30 @@ module _ (h : HeapState) (m : Memory) (t : ℕ) (homes : Homes) (g : Graph) (kee
   start-to b c node =
       let n = node-at b node in
       let has : raws.has b ≡ true = (and_parts (raws.has b) (is_mortal h.rows b) node).0 in
-      let one : (q : Object) → IsIn q g.objects → table q.number ≡ b → q ≡ n.object = λ q q_in at. (fits homes g keeps.formed keeps.house).apart q n.object q_in n.is_in (at ∙ sym n.at_is) in
-      (n, elim (Contains-append_cases (addresses h.roots) (map (λ (slot : Slot). slot.target.0) (filter is_strong h.slots)) b c) [
-        | inl rooted ↦
-            let it = in-map (λ r. root_address table r.holds) g.roots b (subst (λ ns. IsIn b ns) keeps.stands.roots (contains-in (addresses h.roots) b rooted)) in
-            let to = root-target it.0 b it.1 it.2 has in
-            inl (it.0, it.1, to.3 ∙ ap (λ (q : Object). held.Object q.number) (one to.0 to.1 to.2))
-        | inr led ↦
-            let it = in-map (λ (slot : Slot). slot.target.0) (filter is_strong h.slots) b (contains-in _ b led) in
-            let slot : Slot = it.0 in
-            let there = in-filter is_strong h.slots slot it.1 in
-            let out = (keeps.out.exact slot).0 there.0 in
-            let from = object-at homes g keeps.formed keeps.house out.object out.has in
-            let o : Object = from.object in
-            let raw : raws.raw out.object ≡ raw_under table o = ap raws.raw (sym from.at_is) ∙ (raw-there homes g keeps.formed keeps.house o from.is_in).1 in
-            let within : IsIn out.place (places_of g.classes o.shape) =
-                subst (λ (r : Raw). IsIn out.place (places_of g.classes r.shape)) raw (subst (λ cs. IsIn out.place (places_of cs (raws.raw out.object).shape)) keeps.stands.classes out.is_in) in
-            let immune : is_immune g.sealed o.place ≡ true = not-true _ (sym (mortal o from.is_in) ∙ ap (is_mortal h.rows) from.at_is ∙ out.immune) in
-            let value : value_in table o out.place ≡ pos b = sym (ap (λ (r : Raw). r.values out.place) raw) ∙ sym out.target_is ∙ ap (λ k. pos k) it.2 in
-            let to = target homes g keeps.formed keeps.house o out.place b from.is_in within out.kind_is value has in
-            let weak : out.place.weak ≡ false = sym out.weak_is ∙ not-flips slot.weak there.1 in
-            inr (o, from.is_in, immune, subst (λ (q : Object). HoldsStrongly o q.number) (one to.object to.is_in to.at_is) (holds-strongly o out.place to.object.number from.is_in within weak to.value_is))
-      ])
+      let one : (q : Object) → IsIn q g.objects → table q.number ≡ b → q ≡ n.object = λ q q_in at. (fits homes g keeps.formed keeps.house).apart q n.object q_in n.is_in (at ∙ sym n.at_is) in (
+        n,
+        elim (Contains-append_cases (addresses h.roots) (map (λ (slot : Slot). slot.target.0) (filter is_strong h.slots)) b c) [
+          | inl rooted ↦
+              let it = in-map (λ r. root_address table r.holds) g.roots b (subst (λ ns. IsIn b ns) keeps.stands.roots (contains-in (addresses h.roots) b rooted)) in
+              let to = root-target it.0 b it.1 it.2 has in
+              inl (it.0, it.1, to.3 ∙ ap (λ (q : Object). held.Object q.number) (one to.0 to.1 to.2))
+          | inr led ↦
+              let it = in-map (λ (slot : Slot). slot.target.0) (filter is_strong h.slots) b (contains-in _ b led) in
+              let slot : Slot = it.0 in
+              let there = in-filter is_strong h.slots slot it.1 in
+              let out = (keeps.out.exact slot).0 there.0 in
+              let from = object-at homes g keeps.formed keeps.house out.object out.has in
+              let o : Object = from.object in
+              let raw : raws.raw out.object ≡ raw_under table o = ap raws.raw (sym from.at_is) ∙ (raw-there homes g keeps.formed keeps.house o from.is_in).1 in
+              let within : IsIn out.place (places_of g.classes o.shape) =
+              subst (λ (r : Raw). IsIn out.place (places_of g.classes r.shape)) raw (subst (λ cs. IsIn out.place (places_of cs (raws.raw out.object).shape)) keeps.stands.classes out.is_in) in
+              let immune : is_immune g.sealed o.place ≡ true = not-true _ (sym (mortal o from.is_in) ∙ ap (is_mortal h.rows) from.at_is ∙ out.immune) in
+              let value : value_in table o out.place ≡ pos b = sym (ap (λ (r : Raw). r.values out.place) raw) ∙ sym out.target_is ∙ ap (λ k. pos k) it.2 in
+              let to = target homes g keeps.formed keeps.house o out.place b from.is_in within out.kind_is value has in
+              let weak : out.place.weak ≡ false = sym out.weak_is ∙ not-flips slot.weak there.1 in
+              inr (o, from.is_in, immune, subst (λ (q : Object). HoldsStrongly o q.number) (one to.object to.is_in to.at_is) (holds-strongly o out.place to.object.number from.is_in within weak to.value_is))
+        ],
+      )
 
   start-from : (q : Object) → IsIn q g.objects → is_immune g.sealed q.place ≡ false → IsStart g q.number → Contains starts (table q.number)
   start-from q there free (inl (r, r_in, is)) =
@@ -250,7 +252,8 @@ module _ (h : HeapState) (m : Memory) (t : ℕ) (homes : Homes) (g : Graph) (kee
         let p : Reached g.classes h.rows raws starts (table o.number) = subst (λ cs. Reached cs h.rows raws starts (table o.number)) keeps.stands.classes r in
         let it = path-to (table o.number) p.0 p.1 in
         let n : NodeAt (table o.number) = it.0 in
-        let same : n.object ≡ o = (fits homes g keeps.formed keeps.house).apart n.object o n.is_in there n.at_is in
-        ((reached-is g o.number).1 ((o, there, refl), (it.1.0, subst (λ (q : Object). IsPathTo g it.1.0 q.number) same it.1.1)),
-        ap (λ (q : Object). is_immune g.sealed q.place) (sym same) ∙ n.free)),
+        let same : n.object ≡ o = (fits homes g keeps.formed keeps.house).apart n.object o n.is_in there n.at_is in (
+          (reached-is g o.number).1 ((o, there, refl), (it.1.0, subst (λ (q : Object). IsPathTo g it.1.0 q.number) same it.1.1)),
+          ap (λ (q : Object). is_immune g.sealed q.place) (sym same) ∙ n.free,
+        )),
   )

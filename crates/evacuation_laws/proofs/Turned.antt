@@ -202,11 +202,11 @@ module _ (h : HeapState) (old new : Memory) (t : ℕ) (homes : Homes) (g : Graph
       let to = go-kept o there keep in
       let raw = (raw-there homes g k.formed k.house o there).1 in
       let one : SameRaw g.classes (led c.go ((raws_of homes g).raw (table o.number))) (c.now.raw (c.go (table o.number))) =
-          subst (λ cs. SameRaw cs (led c.go ((raws_of homes g).raw (table o.number))) (c.now.raw (c.go (table o.number)))) k.stands.classes (c.left.same (table o.number) is) in
+      subst (λ cs. SameRaw cs (led c.go ((raws_of homes g).raw (table o.number))) (c.now.raw (c.go (table o.number)))) k.stands.classes (c.left.same (table o.number) is) in
       let two : SameRaw g.classes (led c.go (raw_under table o)) (c.now.raw (c.go (table o.number))) =
-          subst (λ (r : Raw). SameRaw g.classes (led c.go r) (c.now.raw (c.go (table o.number)))) raw one in
+      subst (λ (r : Raw). SameRaw g.classes (led c.go r) (c.now.raw (c.go (table o.number)))) raw one in
       let three : SameRaw g.classes (led c.go (raw_under table o)) (c.now.raw (next o.number)) =
-          subst (λ a. SameRaw g.classes (led c.go (raw_under table o)) (c.now.raw a)) to two in
+      subst (λ a. SameRaw g.classes (led c.go (raw_under table o)) (c.now.raw a)) to two in
       ((c.left.has (next o.number)).1 (table o.number, is, to), raw-back g.classes (led c.go (raw_under table o)) (c.now.raw (next o.number)) three)
 
   -- the collected graph is held
