@@ -1,10 +1,8 @@
 -- The objects of a graph that a process holds can be collected.
-use Rattle.std.proofs.Common.{◌≡◌, ◌≢◌, ◌∙◌, ◌⊎◌, ◌↔◌, ℕ, ◌+◌, ◌*◌, ◌%◌, ◌<◌, ◌≤◌, Bool, true, false, not, List, [], ◌∷◌, ◌++◌, Some, map, filter, length, refl, sym, ap, subst, inl, inr, arith, true≢false, pos}
-use Rattle.std.specs.Prelude.{All, IsTrue, is_some}
-use Rattle.std.specs.List.{list_any, AllByRecursion, Contains}
-use Rattle.std.proofs.lemmas.Bool.{cases_Bool}
+use Rattle.std.proofs.Common.{◌≡◌, ◌∙◌, ℕ, ◌≤◌, true, false, List, [], ◌∷◌, ◌++◌, map, refl, sym, ap, subst, inl, inr, arith, true≢false}
+use Rattle.std.specs.Prelude.{All, is_some}
+use Rattle.std.specs.List.{list_any}
 use Rattle.std.proofs.lemmas.List.{append-nil, length-map}
-use Rattle.model_numbers.specs.Numbers.{region_base, region_bytes, region_count}
 use Rattle.class_layout.specs.ClassList.{Class}
 use Rattle.class_layout.specs.declared.kind.Kind.TheVariants.{Ref}
 use Rattle.class_layout.specs.declared.kind.FieldAt.{FieldAt}
@@ -12,7 +10,6 @@ use Rattle.class_layout.specs.Kinds.{next_multiple}
 use Rattle.class_layout.specs.Placing.{IsIn}
 use Rattle.page_tables.specs.declared.address.Addr.{Addr}
 use Rattle.page_tables.specs.declared.address.Window.TheVariants as window
-use Rattle.page_tables.specs.Address.{is_in}
 use Rattle.cow_pages.specs.Memory.{Memory}
 use Rattle.cow_pages.specs.View.{view_of}
 use Rattle.heap_graph.specs.declared.names.Content.{Content}
@@ -23,7 +20,7 @@ use Rattle.heap_graph.specs.declared.names.Place.{Place}
 use Rattle.heap_graph.specs.declared.names.Place.TheVariants as place
 use Rattle.heap_graph.specs.declared.names.Root.{Root}
 use Rattle.heap_graph.specs.Formed.{FitsKind, SuitsShape}
-use Rattle.heap_graph.specs.Graph.{is_immune, is_young, size_of_object, Graph, Object}
+use Rattle.heap_graph.specs.Graph.{is_young, size_of_object, Graph, Object}
 use Rattle.heap_graph.specs.Packing.{after, end_from, places_from, young_objects, young_sizes}
 use Rattle.heap_graph.specs.Packing as packing
 use Rattle.heap_graph.specs.Places.{places_of}
@@ -34,7 +31,7 @@ use Rattle.heap_graph.proofs.Sizes.{size-least, young-packed}
 use Rattle.object_view.specs.Seen.{root_address, seen_value, value_in}
 use Rattle.raw_objects.specs.Raws.{raw_size, HoldsRaws, Raw, Raws}
 use Rattle.raw_objects.specs.References.{in_regions, now_at}
-use Rattle.address_table.specs.Computed.{slot_at, table_of, Homes}
+use Rattle.address_table.specs.Computed.{table_of, Homes}
 use Rattle.address_table.proofs.Beside.{all-in, not-too-large, shape-in}
 use Rattle.address_table.proofs.Fitting.{fits}
 use Rattle.region_lists.specs.Rows.{Row}
@@ -53,8 +50,8 @@ use Rattle.graph_pages.proofs.Lists.{filter-in, in-filter, in-map, map-in}
 use Rattle.live_objects.specs.Live.{addresses}
 use Rattle.live_objects.specs.Reach.{in_large, IsFound, IsHeld}
 use Rattle.object_moves.specs.Copies.{sizes_at, HoldsRegions, IsBesideRegions, PacksAt}
-use Rattle.object_collection.specs.Collects.{AreLarge, AreSlotsOut, AreYoung, CanCollect, HeapState}
-use Rattle.evacuation_laws.specs.Stands.{home_of, raws_of, row_of, rows_from, young_homes, KeepsGraph}
+use Rattle.object_collection.specs.Collects.{AreLarge, AreYoung, CanCollect, HeapState}
+use Rattle.evacuation_laws.specs.Stands.{home_of, raws_of, rows_from, young_homes, KeepsGraph}
 use Rattle.evacuation_laws.proofs.Members.{all-from, contains-in, in-contains, map-same, map-twice}
 use Rattle.evacuation_laws.proofs.Pages.{large-pages, region-pages}
 use Rattle.evacuation_laws.proofs.Found.{held-one, numbered, object-at, raw-there, target-in, ObjectAt}

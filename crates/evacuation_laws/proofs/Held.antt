@@ -1,11 +1,10 @@
 -- After a collection the pages hold the collected graph.
-use Rattle.std.proofs.Common.{◌≡◌, ◌≢◌, ◌∙◌, ◌⊎◌, ℕ, ◌+◌, ◌-◌, ◌<◌, Bool, true, false, not, List, [], ◌∷◌, ◌++◌, map, filter, refl, sym, ap, subst, inl, inr, true≢false}
-use Rattle.std.specs.Prelude.{All, IsTrue, ◌&&◌, ◌||◌, nat_le}
+use Rattle.std.proofs.Common.{◌≡◌, ◌≢◌, ◌∙◌, ◌⊎◌, ℕ, ◌+◌, ◌-◌, ◌<◌, true, false, List, ◌++◌, filter, refl, sym, ap, inl, inr}
+use Rattle.std.specs.Prelude.{◌&&◌, nat_le}
 use Rattle.std.specs.List.{list_any}
 use Rattle.std.proofs.lemmas.Bool.{cases_Bool, or_left}
 use Rattle.std.proofs.lemmas.List.{append-nil}
 use Rattle.std.proofs.lemmas.List.Elements.{All-filter}
-use Rattle.class_layout.specs.Placing.{IsIn}
 use Rattle.page_tables.specs.declared.address.Addr.{Addr}
 use Rattle.page_tables.specs.declared.address.Window.{Window}
 use Rattle.page_tables.specs.declared.address.Window.TheVariants as window
@@ -25,12 +24,12 @@ use Rattle.large_objects.specs.declared.rows.LargeRow.{LargeRow}
 use Rattle.large_objects.specs.Rows.{waits, IsBytes}
 use Rattle.large_objects.specs.Pages as large
 use Rattle.large_objects.proofs.PageLemmas.{any-in-window}
-use Rattle.address_table.specs.Computed.{table_of, Homes, HouseAll}
+use Rattle.address_table.specs.Computed.{table_of, Homes}
 use Rattle.graph_pages.specs.Collected.{keeps}
 use Rattle.graph_pages.specs.Pages.{has_bytes_in, MapsWindow, PagesHold}
 use Rattle.graph_pages.proofs.Lists.{any-from, any-to}
 use Rattle.object_collection.specs.Collects.{HeapState, IsCollected, LeavesPages}
-use Rattle.evacuation_laws.specs.Stands.{homes_in, raws_of, rows_from, KeepsGraph}
+use Rattle.evacuation_laws.specs.Stands.{homes_in, raws_of, KeepsGraph}
 use Rattle.evacuation_laws.proofs.Left.{formed, housed, old-are, packed, rows-is, same-bool}
 use Rattle.evacuation_laws.proofs.Pages.{large-pages, one-window, page-in, region-pages, window_of}
 use Rattle.evacuation_laws.proofs.Turned.{back-in, graph-left, kept-in, next-is}

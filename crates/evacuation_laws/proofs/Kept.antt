@@ -1,22 +1,20 @@
 -- After a collection the process keeps the collected graph as it kept the graph before.
-use Rattle.std.proofs.Common.{◌≡◌, ◌≢◌, ◌∙◌, ◌⊎◌, ◌↔◌, ℕ, ◌+◌, ◌<◌, ◌≤◌, Bool, true, false, not, List, [], ◌∷◌, map, filter, refl, sym, ap, subst, inl, inr, arith, true≢false, pos}
-use Rattle.std.specs.Prelude.{All, IsTrue, ◌||◌, nat_eq}
-use Rattle.std.specs.List.{list_any, Contains}
+use Rattle.std.proofs.Common.{◌≡◌, ◌∙◌, ℕ, ◌+◌, ◌<◌, Bool, true, false, not, List, filter, refl, sym, ap, subst, arith, true≢false, pos}
+use Rattle.std.specs.Prelude.{IsTrue, ◌||◌, nat_eq}
+use Rattle.std.specs.List.{list_any}
 use Rattle.std.proofs.lemmas.Bool.{eq-eqb, or_left, or_right}
 use Rattle.std.proofs.lemmas.List.Elements.{All-filter}
 use Rattle.class_layout.specs.declared.kind.Kind.TheVariants.{Ref}
 use Rattle.class_layout.specs.declared.kind.FieldAt.{FieldAt}
-use Rattle.class_layout.specs.ClassList.{Class}
 use Rattle.class_layout.specs.Placing.{IsIn}
 use Rattle.page_tables.specs.declared.address.Addr.{Addr}
 use Rattle.page_tables.specs.declared.address.Window.TheVariants as window
 use Rattle.page_tables.specs.Address.{is_in, page_of}
 use Rattle.cow_pages.specs.Memory.{is_mapped, HasOneSharer, Memory}
-use Rattle.cow_pages.specs.View.{view_of}
 use Rattle.heap_graph.specs.declared.names.Content.{Content}
 use Rattle.heap_graph.specs.declared.names.Content.TheVariants as content
-use Rattle.heap_graph.specs.Collection.{clear_if, cleared, cleared_slot, collect, if_kept}
-use Rattle.heap_graph.specs.Graph.{is_immune, is_young, Graph, Object}
+use Rattle.heap_graph.specs.Collection.{clear_if, collect, if_kept}
+use Rattle.heap_graph.specs.Graph.{is_immune, Graph, Object}
 use Rattle.heap_graph.specs.Paths.{numbers}
 use Rattle.heap_graph.specs.Places.{places_of}
 use Rattle.heap_graph.specs.Reach.{is_among}
@@ -28,22 +26,21 @@ use Rattle.heap_graph.proofs.Stores.{cleared-value}
 use Rattle.object_view.specs.declared.names.Slot.{Slot}
 use Rattle.object_view.specs.Seen.{seen_value, value_in}
 use Rattle.object_view.proofs.Laid.{place-within}
-use Rattle.raw_objects.specs.Raws.{Raw, Raws}
-use Rattle.region_space.specs.Space.{lists_of, Space}
+use Rattle.raw_objects.specs.Raws.{Raw}
+use Rattle.region_space.specs.Space.{Space}
 use Rattle.large_objects.specs.declared.rows.LargeRow.{LargeRow}
 use Rattle.large_objects.specs.Rows.{waits, AreRows, IsBytes}
 use Rattle.large_objects.specs.Pages as large
 use Rattle.large_objects.proofs.PageLemmas.{any-in-window}
 use Rattle.address_table.specs.Computed.{table_of, Homes, HouseAll}
-use Rattle.address_table.proofs.Fitting.{fits}
 use Rattle.graph_pages.specs.Collected.{keeps}
 use Rattle.graph_pages.specs.Holds.{raw_under}
 use Rattle.graph_pages.proofs.Lists.{any-from, any-to, filter-in, in-filter}
 use Rattle.live_objects.specs.Reach.{is_mortal}
 use Rattle.live_objects.proofs.MarkLemmas.{immune-off}
-use Rattle.object_collection.specs.Collects.{may_change, state_of, HeapState, IsCollected, LeadsOut, LeavesPages}
-use Rattle.evacuation_laws.specs.Stands.{homes_in, raws_of, HasFramesAlone, HasSlotsOut, KeepsGraph}
-use Rattle.evacuation_laws.proofs.Found.{object-at, raw-there, target, target-in}
+use Rattle.object_collection.specs.Collects.{state_of, HeapState, IsCollected, LeadsOut, LeavesPages}
+use Rattle.evacuation_laws.specs.Stands.{homes_in, raws_of, HasSlotsOut, KeepsGraph}
+use Rattle.evacuation_laws.proofs.Found.{object-at, raw-there, target-in}
 use Rattle.evacuation_laws.proofs.Held.{pages-left}
 use Rattle.evacuation_laws.proofs.Left.{formed, housed, old-are, rows-is}
 use Rattle.evacuation_laws.proofs.Reach.{mortal}

@@ -1,55 +1,48 @@
 -- What a collection leaves is what the process keeps for the collected graph.
-use Rattle.std.proofs.Common.{◌≡◌, ◌≢◌, ◌∙◌, ◌⊎◌, ◌↔◌, ℕ, ◌+◌, ◌-◌, ◌*◌, ◌/◌, ◌<◌, ◌≤◌, Bool, true, false, not, List, [], ◌∷◌, ◌++◌, map, filter, length, get_or, refl, sym, ap, subst, inl, inr, arith, true≢false}
-use Rattle.std.specs.Prelude.{nat_eq, slice_index, All, ◌||◌, pos}
+use Rattle.std.proofs.Common.{◌≡◌, ◌∙◌, ℕ, ◌*◌, ◌<◌, Bool, true, false, List, [], ◌++◌, map, filter, length, refl, sym, ap, subst, inl, inr, arith, true≢false}
+use Rattle.std.specs.Prelude.{nat_eq, All, ◌||◌}
 use Rattle.std.specs.List.{Contains, IsDistinct}
-use Rattle.std.proofs.lemmas.Bool.{cases_Bool, cases_order, eqb-false, or_cases, or_left, or_right}
-use Rattle.std.proofs.lemmas.List.{get_or-map, length-map}
+use Rattle.std.proofs.lemmas.Bool.{cases_Bool, cases_order, eqb-false, or_left, or_right}
+use Rattle.std.proofs.lemmas.List.{length-map}
 use Rattle.std.proofs.lemmas.List.Elements.{All-contains}
 use Rattle.std.proofs.lemmas.Map.Keys.{apart_from_distinct}
-use Rattle.model_numbers.specs.Numbers.{large_base, large_slot_bytes, region_bytes}
-use Rattle.class_layout.specs.ClassList.{Class}
-use Rattle.class_layout.specs.declared.kind.FieldAt.{FieldAt}
+use Rattle.model_numbers.specs.Numbers.{region_bytes}
 use Rattle.class_layout.specs.Placing.{IsIn}
 use Rattle.page_tables.specs.declared.address.Addr.{Addr}
 use Rattle.cow_pages.specs.Memory.{Memory}
-use Rattle.cow_pages.specs.View.{view_of}
-use Rattle.heap_graph.specs.declared.names.Held.{Held}
-use Rattle.heap_graph.specs.declared.names.Held.TheVariants as held
 use Rattle.heap_graph.specs.declared.names.Place.{Place}
 use Rattle.heap_graph.specs.declared.names.Place.TheVariants as place
-use Rattle.heap_graph.specs.declared.names.Root.{Root}
-use Rattle.heap_graph.specs.Collection.{cleared, collect}
+use Rattle.heap_graph.specs.Collection.{collect}
 use Rattle.heap_graph.specs.Formed.{IsFormed}
-use Rattle.heap_graph.specs.Graph.{is_immune, is_young, Graph, Object}
+use Rattle.heap_graph.specs.Graph.{is_immune, Graph, Object}
 use Rattle.heap_graph.specs.Packing.{end_from, places_from, used, young_objects, young_sizes}
 use Rattle.heap_graph.specs.Paths.{numbers}
 use Rattle.heap_graph.specs.Reach.{is_among, reached}
 use Rattle.heap_graph.specs.Sizes.{parts_for}
-use Rattle.heap_graph.specs.Table.{IsPlacedAt, IsSlot}
+use Rattle.heap_graph.specs.Table.{IsPlacedAt}
 use Rattle.heap_world.proofs.FormedKept.{collect_formed}
-use Rattle.address_table.specs.Computed.{large_count, slot_at, table_of, AreNumbers, Homes, HouseAll}
+use Rattle.address_table.specs.Computed.{table_of, AreNumbers, Homes, HouseAll}
 use Rattle.address_table.proofs.Fitting.{fits}
 use Rattle.region_lists.specs.Rows.{Row}
 use Rattle.region_lists.proofs.MoveLemmas.{all-left}
 use Rattle.region_space.specs.Packed.{address_in}
-use Rattle.region_space.specs.Space.{lists_of, IsSpace, Space}
+use Rattle.region_space.specs.Space.{lists_of, Space}
 use Rattle.region_space.proofs.WalkLemmas.{in_use-apart}
 use Rattle.large_objects.specs.declared.rows.LargeRow.{LargeRow}
 use Rattle.large_objects.specs.Rows.{slot_base, AreRows}
 use Rattle.large_objects.proofs.RowLemmas.{distinct-filter}
 use Rattle.world_laws.specs.Named.{has_slot}
 use Rattle.graph_pages.specs.Collected.{keeps}
-use Rattle.graph_pages.proofs.Lists.{filter-in, in-filter, in-map, map-in}
-use Rattle.live_objects.specs.Live.{addresses}
+use Rattle.graph_pages.proofs.Lists.{in-filter, in-map}
 use Rattle.object_moves.specs.Copies.{sizes_at, PacksAt}
 use Rattle.object_collection.specs.Collects.{HeapState, IsCollected, IsReached}
-use Rattle.evacuation_laws.specs.Stands.{home_of, homes_in, raws_of, row_of, rows_from, young_homes, KeepsGraph}
-use Rattle.evacuation_laws.proofs.Members.{all-from, contains-in, in-contains, map-twice, same-addresses}
-use Rattle.evacuation_laws.proofs.Packed.{by-count, by-slot, by-there, row_by, rows-are-by, rows-by-are, rows-kept, rows_by, slot_in, young-table}
+use Rattle.evacuation_laws.specs.Stands.{home_of, homes_in, raws_of, rows_from, young_homes, KeepsGraph}
+use Rattle.evacuation_laws.proofs.Members.{all-from, in-contains, map-twice, same-addresses}
+use Rattle.evacuation_laws.proofs.Packed.{by-count, by-there, row_by, rows-are-by, rows-by-are, rows-kept, rows_by, slot_in, young-table}
 use Rattle.evacuation_laws.proofs.Reach.{reached-same}
-use Rattle.evacuation_laws.proofs.Rows.{row-there, slots_of}
+use Rattle.evacuation_laws.proofs.Rows.{slots_of}
 use Rattle.evacuation_laws.proofs.Stand.{are-rows}
-use Rattle.evacuation_laws.proofs.Young.{sizes-collected, young-are, young-collected}
+use Rattle.evacuation_laws.proofs.Young.{sizes-collected, young-are}
 
 pub same-bool : (a b : Bool) → (a ≡ true → b ≡ true) → (b ≡ true → a ≡ true) → a ≡ b
 same-bool true true there back = refl

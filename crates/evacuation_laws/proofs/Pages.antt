@@ -1,11 +1,10 @@
 -- Which pages hold the bytes of a graph's objects, by windows.
-use Rattle.std.proofs.Common.{◌≡◌, ◌≢◌, ◌∙◌, ◌⊎◌, ℕ, zero, suc, ◌+◌, ◌-◌, ◌*◌, ◌/◌, ◌<◌, ◌≤◌, Bool, true, false, List, [], ◌∷◌, ◌++◌, map, filter, length, get_or, refl, sym, ap, subst, inl, inr, arith, true≢false}
-use Rattle.std.specs.Prelude.{nat_eq, nat_le, nat_lt, slice_index, slice_index_or, All, ◌&&◌, IsTrue}
-use Rattle.std.specs.List.{list_any, Contains}
-use Rattle.std.proofs.lemmas.Bool.{and_from, and_parts, cases_Bool, le-leb, leb-true, lt-ltb, ltb-true}
+use Rattle.std.proofs.Common.{◌≡◌, ◌∙◌, ℕ, zero, suc, ◌+◌, ◌-◌, ◌*◌, ◌/◌, ◌<◌, ◌≤◌, Bool, true, List, [], ◌∷◌, ◌++◌, map, length, get_or, refl, sym, ap, inl, inr, arith}
+use Rattle.std.specs.Prelude.{nat_le, nat_lt, slice_index_or}
+use Rattle.std.specs.List.{list_any}
+use Rattle.std.proofs.lemmas.Bool.{and_from, and_parts, le-leb, leb-true, lt-ltb, ltb-true}
 use Rattle.std.proofs.lemmas.List.{get_or-map, length-map}
 use Rattle.std.proofs.lemmas.List.Elements.{All-contains}
-use Rattle.model_numbers.specs.Numbers.{page_bytes, region_bytes}
 use Rattle.class_layout.specs.ClassList.{Class}
 use Rattle.class_layout.specs.Placing.{IsIn}
 use Rattle.page_tables.specs.declared.address.Addr.{Addr}
@@ -17,7 +16,7 @@ use Rattle.heap_graph.specs.declared.names.Place.TheVariants as place
 use Rattle.heap_graph.specs.Formed.{IsFormed}
 use Rattle.heap_graph.specs.Graph.{is_immune, is_young, size_of_object, Graph, Object}
 use Rattle.heap_graph.specs.Packing.{young_objects, young_sizes}
-use Rattle.heap_graph.specs.Sizes.{size_in, unrounded}
+use Rattle.heap_graph.specs.Sizes.{size_in}
 use Rattle.heap_graph.specs.Table.{IsPlacedAt}
 use Rattle.heap_graph.proofs.Sizes.{not-large, size-least}
 use Rattle.address_table.specs.Computed.{slot_at, table_of, Homes, HouseAll}
@@ -36,7 +35,7 @@ use Rattle.large_objects.proofs.LawLemmas.{row-covers}
 use Rattle.world_laws.specs.Named.{has_slot}
 use Rattle.graph_pages.specs.Holds.{no_object}
 use Rattle.graph_pages.specs.Pages.{has_bytes_in}
-use Rattle.graph_pages.proofs.Lists.{any-from, any-to, filter-in, in-filter, in-map, map-in}
+use Rattle.graph_pages.proofs.Lists.{any-from, any-to, filter-in, in-filter, map-in}
 use Rattle.object_moves.specs.Copies.{at_of, PacksAt}
 use Rattle.evacuation_laws.specs.Stands.{home_of, row_of, rows_from, young_homes}
 use Rattle.evacuation_laws.proofs.Left.{same-bool}

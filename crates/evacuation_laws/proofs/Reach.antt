@@ -1,16 +1,14 @@
 -- What is reached in a graph is reached among the raw objects that stand for it.
-use Rattle.std.proofs.Common.{◌≡◌, ◌≢◌, ◌∙◌, ◌⊎◌, ◌↔◌, ℕ, ◌+◌, Bool, true, false, not, List, [], ◌∷◌, map, refl, sym, ap, subst, inl, inr, arith, true≢false, pos}
-use Rattle.std.specs.Prelude.{nat_eq, ◌||◌, ◌&&◌, filter, ℤ}
-use Rattle.std.specs.List.{list_any, Contains}
-use Rattle.std.proofs.lemmas.Bool.{and_from, and_parts, cases_Bool, eq-eqb, eqb-true, ne_eqb, or_cases}
+use Rattle.std.proofs.Common.{◌≡◌, ◌∙◌, ◌↔◌, ℕ, ◌+◌, Bool, true, false, not, List, [], ◌∷◌, map, refl, sym, ap, subst, inl, inr, true≢false, pos}
+use Rattle.std.specs.Prelude.{nat_eq, filter}
+use Rattle.std.specs.List.{Contains}
+use Rattle.std.proofs.lemmas.Bool.{and_from, and_parts, cases_Bool, eq-eqb, eqb-true, ne_eqb}
 use Rattle.std.proofs.lemmas.List.Elements.{Contains-append_cases, Contains-append_left, Contains-append_right}
 use Rattle.class_layout.specs.ClassList.{Class}
-use Rattle.class_layout.specs.declared.kind.Kind.{Kind}
 use Rattle.class_layout.specs.declared.kind.Kind.TheVariants.{Ref}
 use Rattle.class_layout.specs.declared.kind.FieldAt.{FieldAt}
 use Rattle.class_layout.specs.Kinds.{is_ref}
 use Rattle.class_layout.specs.Placing.{IsIn}
-use Rattle.page_tables.specs.declared.address.Addr.{Addr}
 use Rattle.cow_pages.specs.Memory.{Memory}
 use Rattle.heap_graph.specs.declared.names.Content.{Content}
 use Rattle.heap_graph.specs.declared.names.Content.TheVariants as content
@@ -19,32 +17,26 @@ use Rattle.heap_graph.specs.declared.names.Held.TheVariants as held
 use Rattle.heap_graph.specs.declared.names.Root.{Root}
 use Rattle.heap_graph.specs.declared.names.Shape.{Shape}
 use Rattle.heap_graph.specs.declared.names.Stored.{Stored}
-use Rattle.heap_graph.specs.Formed.{AreSlots, FitsKind, HoldsValues, IsFormed}
+use Rattle.heap_graph.specs.Formed.{AreSlots, FitsKind}
 use Rattle.heap_graph.specs.Graph.{is_immune, Graph, Object}
-use Rattle.heap_graph.specs.Paths as paths
-use Rattle.heap_graph.specs.Paths.{numbers, HoldsStrongly, IsPathTo, IsRooted, IsStart}
+use Rattle.heap_graph.specs.Paths.{HoldsStrongly, IsPathTo, IsStart}
 use Rattle.heap_graph.specs.Places.{places_of}
 use Rattle.heap_graph.specs.Reach.{is_among, reached}
-use Rattle.heap_graph.specs.Values.{empty_slot, held_targets, slot_of, targets, value_at, value_if, with_target}
-use Rattle.heap_graph.proofs.Lists.{any-flat_map, any-map}
+use Rattle.heap_graph.specs.Values.{empty_slot, value_at, value_if}
 use Rattle.heap_graph.proofs.Places.{object-in, one-place, slot-place, stored-slot, value-fits}
 use Rattle.heap_graph.proofs.Reached.{reached-is}
-use Rattle.heap_graph.proofs.Slots.{target_later}
 use Rattle.object_view.specs.declared.names.Slot.{Slot}
 use Rattle.object_view.specs.Seen.{root_address, seen_value, value_in}
 use Rattle.object_view.proofs.Laid.{ref-kind}
 use Rattle.raw_objects.specs.Raws.{Raw, Raws}
 use Rattle.address_table.specs.Computed.{table_of, Homes}
-use Rattle.address_table.proofs.Beside.{all-in}
-use Rattle.address_table.proofs.Fitting.{fits, object-not-null}
-use Rattle.graph_pages.specs.Holds.{is_at, object_on, raw_under, raws_under}
-use Rattle.graph_pages.proofs.Collects.{held-target}
-use Rattle.graph_pages.proofs.Graphs.{found, graph-fits}
-use Rattle.graph_pages.proofs.Lists.{any-from, any-to, filter-in, in-filter, in-map, map-in}
+use Rattle.address_table.proofs.Fitting.{fits}
+use Rattle.graph_pages.specs.Holds.{raw_under}
+use Rattle.graph_pages.proofs.Lists.{any-to, filter-in, in-filter, in-map, map-in}
 use Rattle.live_objects.specs.Live.{addresses}
 use Rattle.live_objects.specs.Reach.{is_mortal, is_node, is_strong, starts_of, Holds, Path, Reached}
 use Rattle.object_collection.specs.Collects.{HeapState, IsReached, LeadsOut}
-use Rattle.evacuation_laws.specs.Stands.{raws_of, rows_from, KeepsGraph}
+use Rattle.evacuation_laws.specs.Stands.{raws_of, KeepsGraph}
 use Rattle.evacuation_laws.proofs.Found.{held-one, null-not, numbered, object-at, raw-there, target}
 use Rattle.evacuation_laws.proofs.Members.{contains-in, in-contains}
 use Rattle.evacuation_laws.proofs.Stand.{mortal-is}

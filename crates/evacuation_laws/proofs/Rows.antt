@@ -1,5 +1,5 @@
 -- The rows of a graph's large objects.
-use Rattle.std.proofs.Common.{◌≡◌, ◌∙◌, ◌⊎◌, ℕ, ◌+◌, ◌*◌, ◌<◌, ◌≤◌, Bool, true, false, List, [], ◌∷◌, length, map, get_or, Some, refl, sym, ap, subst, inl, inr, arith, true≢false}
+use Rattle.std.proofs.Common.{◌≡◌, ◌∙◌, ℕ, ◌+◌, ◌<◌, ◌≤◌, true, false, List, [], ◌∷◌, length, map, refl, sym, ap, subst, inl, inr, arith, true≢false}
 use Rattle.std.specs.Prelude.{nat_eq, slice_index}
 use Rattle.std.specs.List.{AllByRecursion, IsDistinct}
 use Rattle.std.proofs.lemmas.Bool.{ne_eqb}
@@ -10,7 +10,6 @@ use Rattle.heap_graph.specs.declared.names.Place.{Place}
 use Rattle.heap_graph.specs.declared.names.Place.TheVariants as place
 use Rattle.heap_graph.specs.Formed.{AreRising}
 use Rattle.heap_graph.specs.Graph.{is_immune, Object}
-use Rattle.heap_graph.specs.Sizes.{unrounded}
 use Rattle.address_table.specs.Computed.{address_in, end_behind, large_behind, large_count, slot_at, table_from, AreNumbers, Homes}
 use Rattle.address_table.proofs.Behind.{count-rises, rising-in, table-first, table-later}
 use Rattle.large_objects.specs.declared.rows.LargeRow.{LargeRow}

@@ -1,6 +1,6 @@
 -- Where the objects of a graph stand, and which of them a process takes for immune.
-use Rattle.std.proofs.Common.{◌≡◌, ◌≢◌, ◌∙◌, ◌⊎◌, ℕ, ◌+◌, ◌<◌, ◌≤◌, Bool, true, false, not, List, Some, length, refl, sym, ap, subst, inl, inr, arith, true≢false}
-use Rattle.std.specs.Prelude.{nat_eq, slice_index, ◌||◌}
+use Rattle.std.proofs.Common.{◌≡◌, ◌∙◌, ◌⊎◌, ℕ, ◌<◌, ◌≤◌, true, false, not, List, Some, refl, ap, subst, inl, inr, arith}
+use Rattle.std.specs.Prelude.{◌||◌}
 use Rattle.std.proofs.lemmas.Bool.{cases_Bool, or_left, or_right}
 use Rattle.class_layout.specs.Placing.{IsIn}
 use Rattle.heap_graph.specs.declared.names.Place.{Place}
@@ -8,7 +8,7 @@ use Rattle.heap_graph.specs.declared.names.Place.TheVariants as place
 use Rattle.heap_graph.specs.Formed.{IsFormed}
 use Rattle.heap_graph.specs.Graph.{is_immune, is_young, Graph, Object}
 use Rattle.heap_graph.proofs.Sizes.{not-large, size-least, unrounded-least}
-use Rattle.address_table.specs.Computed.{large_count, table_of, Homes, HouseAll}
+use Rattle.address_table.specs.Computed.{table_of, Homes, HouseAll}
 use Rattle.address_table.proofs.Behind.{all-behind, last_end, Behind}
 use Rattle.address_table.proofs.Beside.{not-too-large, shape-in}
 use Rattle.address_table.proofs.Fitting.{rest, roomy}

@@ -1,10 +1,9 @@
 -- Where each object of a graph is after a collection, and what the process keeps then.
-use Rattle.std.proofs.Common.{◌≡◌, ◌≢◌, ◌∙◌, ◌⊎◌, ◌↔◌, ℕ, ◌+◌, ◌*◌, ◌<◌, ◌≤◌, Bool, true, false, not, List, [], ◌∷◌, map, filter, length, get_or, refl, sym, ap, subst, inl, inr, arith, true≢false}
-use Rattle.std.specs.Prelude.{nat_eq, slice_index_or, ◌||◌}
-use Rattle.std.proofs.lemmas.Bool.{cases_Bool, or_left, or_right}
+use Rattle.std.proofs.Common.{◌≡◌, ◌∙◌, ℕ, ◌<◌, Bool, true, false, not, List, [], map, filter, length, get_or, refl, sym, ap, subst, inl, inr, arith, true≢false}
+use Rattle.std.specs.Prelude.{◌||◌}
+use Rattle.std.proofs.lemmas.Bool.{cases_Bool, or_right}
 use Rattle.std.proofs.lemmas.List.{get_or-map, length-map}
 use Rattle.class_layout.specs.ClassList.{Class}
-use Rattle.class_layout.specs.declared.kind.FieldAt.{FieldAt}
 use Rattle.class_layout.specs.Placing.{IsIn}
 use Rattle.page_tables.specs.declared.address.Addr.{Addr}
 use Rattle.cow_pages.specs.Memory.{Memory}
@@ -24,28 +23,25 @@ use Rattle.heap_graph.specs.Reach.{is_among, reached}
 use Rattle.heap_graph.specs.Table.{IsPlacedAt}
 use Rattle.heap_graph.proofs.Reached.{reached-is}
 use Rattle.object_view.specs.declared.names.Slot.{Slot}
-use Rattle.object_view.specs.Seen.{root_address, value_in}
+use Rattle.object_view.specs.Seen.{root_address}
 use Rattle.raw_objects.specs.Raws.{HoldsRaws, Raw, SameRaw}
-use Rattle.raw_objects.specs.References.{in_regions}
 use Rattle.region_space.specs.Space.{Space}
 use Rattle.large_objects.specs.declared.rows.LargeRow.{LargeRow}
 use Rattle.large_objects.specs.Rows.{slot_base}
 use Rattle.address_table.specs.Computed.{table_of, Homes, HouseAll}
 use Rattle.address_table.proofs.Fitting.{fits}
 use Rattle.world_laws.specs.Named.{has_slot}
-use Rattle.graph_pages.specs.Collected.{keeps, turned_by, AreTurned, Going}
+use Rattle.graph_pages.specs.Collected.{keeps, AreTurned, Going}
 use Rattle.graph_pages.specs.Holds.{raw_under, HoldsGraph}
 use Rattle.graph_pages.proofs.Collects.{graph-collected}
 use Rattle.graph_pages.proofs.Lists.{filter-in, in-filter, in-map, map-in}
-use Rattle.live_objects.specs.Live.{addresses}
-use Rattle.live_objects.specs.Reach.{is_mortal}
 use Rattle.live_objects.proofs.MarkLemmas.{immune-off}
 use Rattle.object_moves.specs.Copies.{at_of}
-use Rattle.object_collection.specs.Collects.{led, state_of, HeapState, IsCollected, IsKept, IsReached}
-use Rattle.evacuation_laws.specs.Stands.{home_of, homes_in, raws_of, row_of, rows_from, KeepsGraph, StandsFor}
+use Rattle.object_collection.specs.Collects.{led, state_of, HeapState, IsCollected, IsKept}
+use Rattle.evacuation_laws.specs.Stands.{home_of, homes_in, raws_of, row_of, KeepsGraph, StandsFor}
 use Rattle.evacuation_laws.proofs.Left.{formed, housed, moved-is, old-are, packed, rows-by-is, rows-is, slot-back, young-is}
 use Rattle.evacuation_laws.proofs.Members.{in-contains, map-same, map-twice}
-use Rattle.evacuation_laws.proofs.Packed.{by-slot, slot_in}
+use Rattle.evacuation_laws.proofs.Packed.{by-slot}
 use Rattle.evacuation_laws.proofs.Found.{held-one, numbered, raw-there}
 use Rattle.evacuation_laws.proofs.Reach.{mortal, reached-same}
 use Rattle.evacuation_laws.proofs.Rows.{row-there}

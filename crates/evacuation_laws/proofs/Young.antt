@@ -1,9 +1,7 @@
 -- The young objects that a collection keeps: where they stood, in their order.
-use Rattle.std.proofs.Common.{◌≡◌, ◌∙◌, ◌⊎◌, ◌↔◌, ℕ, ◌+◌, ◌-◌, ◌*◌, ◌/◌, ◌<◌, ◌≤◌, Bool, true, false, cond, List, [], ◌∷◌, map, filter, length, refl, sym, ap, subst, inl, inr, arith, true≢false}
-use Rattle.std.specs.Prelude.{nat_eq, All, ◌||◌}
-use Rattle.std.specs.List.{Contains}
-use Rattle.std.proofs.lemmas.Bool.{and_parts, cases_Bool, or_cases, or_right}
-use Rattle.std.proofs.lemmas.List.{length-map}
+use Rattle.std.proofs.Common.{◌≡◌, ◌∙◌, ℕ, ◌+◌, ◌-◌, ◌*◌, ◌/◌, ◌<◌, ◌≤◌, Bool, true, false, cond, List, [], ◌∷◌, map, filter, length, refl, sym, ap, subst, inl, inr, arith, true≢false}
+use Rattle.std.specs.Prelude.{nat_eq, ◌||◌}
+use Rattle.std.proofs.lemmas.Bool.{or_right}
 use Rattle.model_numbers.specs.Numbers.{region_bytes}
 use Rattle.class_layout.specs.ClassList.{Class}
 use Rattle.class_layout.specs.Placing.{IsIn}
@@ -11,7 +9,7 @@ use Rattle.page_tables.specs.declared.address.Addr.{Addr}
 use Rattle.cow_pages.specs.Memory.{Memory}
 use Rattle.heap_graph.specs.declared.names.Place.{Place}
 use Rattle.heap_graph.specs.declared.names.Place.TheVariants as place
-use Rattle.heap_graph.specs.Collection.{cleared, collect, is_kept}
+use Rattle.heap_graph.specs.Collection.{cleared, collect}
 use Rattle.heap_graph.specs.Graph.{is_immune, is_young, size_of_object, Graph, Object}
 use Rattle.heap_graph.specs.Packing.{after, end_from, place_if, places_from, young_objects, young_sizes}
 use Rattle.heap_graph.specs.Packing as packing
@@ -19,13 +17,11 @@ use Rattle.heap_graph.specs.Paths.{numbers}
 use Rattle.heap_graph.specs.Reach.{is_among, reached}
 use Rattle.heap_graph.specs.Sizes.{parts_for, size_in}
 use Rattle.heap_graph.proofs.Sizes.{size-least}
-use Rattle.raw_objects.specs.Raws.{raw_size, Raw, Raws}
+use Rattle.raw_objects.specs.Raws.{raw_size, Raw}
 use Rattle.raw_objects.specs.References.{in_regions}
-use Rattle.region_lists.specs.Rows.{Row}
 use Rattle.region_space.specs.Packed.{address_in}
 use Rattle.region_space.specs.Space.{lists_of}
 use Rattle.address_table.specs.Computed.{table_of, Homes}
-use Rattle.address_table.proofs.Fitting.{fits}
 use Rattle.graph_pages.specs.Collected.{keeps}
 use Rattle.graph_pages.proofs.Lists.{filter-in, in-filter, in-map, map-in}
 use Rattle.live_objects.specs.Live.{addresses, AreRising, ListsYoung}
@@ -34,7 +30,7 @@ use Rattle.live_objects.proofs.YoungLemmas.{one-list}
 use Rattle.live_objects.specs.Reach.{starts_of}
 use Rattle.object_moves.specs.Copies.{sizes_at}
 use Rattle.object_collection.specs.Collects.{HeapState, IsReached}
-use Rattle.evacuation_laws.specs.Stands.{home_of, raws_of, young_homes, KeepsGraph}
+use Rattle.evacuation_laws.specs.Stands.{home_of, raws_of, KeepsGraph}
 use Rattle.evacuation_laws.proofs.Members.{all-from, contains-in, filter-swap, in-contains, map-same, map-twice}
 use Rattle.evacuation_laws.proofs.Found.{raw-there}
 use Rattle.evacuation_laws.proofs.Reach.{node-at, reached-same, NodeAt}

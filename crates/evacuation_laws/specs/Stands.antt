@@ -1,5 +1,5 @@
 -- What a process keeps for a graph that its pages hold, and where a collection of its memory puts the collected graph.
-use Rattle.std.specs.Prelude.{◌≡◌, ◌↔◌, ℕ, ◌+◌, ◌*◌, ◌≤◌, Bool, true, false, IsTrue, List, [], ◌∷◌, filter, length, map, nat_eq, slice_index}
+use Rattle.std.specs.Prelude.{◌≡◌, ◌↔◌, ℕ, ◌*◌, ◌≤◌, Bool, true, false, IsTrue, List, [], ◌∷◌, filter, length, map, nat_eq, slice_index}
 use Rattle.std.specs.List.{IsDistinct}
 use Rattle.class_layout.specs.ClassList.{Class}
 use Rattle.class_layout.specs.Placing.{IsIn}
