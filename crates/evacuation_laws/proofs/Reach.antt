@@ -152,9 +152,6 @@ module _ (h : HeapState) (m : Memory) (t : ℕ) (homes : Homes) (g : Graph) (kee
   abbrev starts : List ℕ
   starts = starts_of h.roots h.slots
 
-  strong-targets : List ℕ
-  strong-targets = map (λ (slot : Slot). slot.target.0) (filter is_strong h.slots)
-
   root-target : (r : Root) (b : ℕ) → IsIn r g.roots → root_address table r.holds ≡ b → raws.has b ≡ true → (q : Object) × IsIn q g.objects × (table q.number ≡ b) × (r.holds ≡ held.Object q.number)
   root-target r b there is has = by r.holds refl is
     where

@@ -42,10 +42,6 @@ sub keep [] ps = []
 sub keep (o ∷ os) [] = []
 sub keep (o ∷ os) (p ∷ ps) = cond (keep o) (p ∷ sub keep os ps) (sub keep os ps)
 
-rising-lower : (low high : ℕ) (ps : List ℕ) → low ≤ high → AreRising high ps → AreRising low ps
-rising-lower low high [] le r = tt
-rising-lower low high (p ∷ ps) le r = (omega (arith, le, r.0), r.1)
-
 place-above : (b : Bool) (p : ℕ) → p ≤ place_if b p
 place-above true p = omega arith
 place-above false p = omega arith
@@ -134,9 +130,6 @@ module _ (h : HeapState) (m : Memory) (t : ℕ) (homes : Homes) (g : Graph) (k :
   pub there-kept : (o : Object) → IsIn o g.objects → is_young o.place ≡ true → is_among (reached g) o.number ≡ true → IsIn o (filter (keeps g) (young_objects g))
   there-kept o there young among =
       filter-in (keeps g) (young_objects g) o (filter-in (λ o. is_young o.place) g.objects o there young) (or_right (is_immune g.sealed o.place) (is_among (reached g) o.number) among)
-
-  candidate : List Addr
-  candidate = map (home_of table) kept_young
 
   -- they are the reached objects of the regions in their order
   pub young-listed : ListsYoung h.regions.in_use (IsReached h (raws_of homes g)) (map (home_of (table_of homes g)) (filter (keeps g) (young_objects g)))
