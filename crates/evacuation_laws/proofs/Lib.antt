@@ -11,3 +11,4 @@ pub mod Pages
 pub mod Held
 pub mod Can
 pub mod Kept
+pub mod Sealed

@@ -8,7 +8,7 @@ use Rattle.page_tables.specs.Address.{page_of}
 use Rattle.cow_pages.specs.Memory.{is_live, HasOneSharer, IsSound, Memory}
 use Rattle.heap_graph.specs.declared.names.Place.{Place}
 use Rattle.heap_graph.specs.declared.names.Place.TheVariants.{Image, Zygote, Young, Large, Promoted}
-use Rattle.heap_graph.specs.Formed.{IsFormed}
+use Rattle.heap_graph.specs.Formed.{is_in_image, IsFormed}
 use Rattle.heap_graph.specs.Graph.{Graph, Object}
 use Rattle.heap_graph.specs.Packing.{young_objects, young_sizes}
 use Rattle.heap_graph.specs.Sizes.{unrounded}
@@ -97,3 +97,23 @@ pub record KeepsGraph (h : HeapState) (m : Memory) (t : ℕ) (homes : Homes) (g 
 -- where a process keeps what may stand in several places, by its regions in use and its rows
 abbrev pub homes_in : List Row → List LargeRow → Homes
 homes_in in_use rows = record { regions = map (λ (row : Row). row.region) in_use; slots = map (λ (row : LargeRow). row.slot) rows }
+
+-- no homes: nothing stands in regions or slots
+abbrev pub no_homes : Homes
+no_homes = record { regions = []; slots = [] }
+
+-- a process has just sealed its graph: all objects stand in the image, no region is in use, and no row stands yet
+pub record HasSealed (h : HeapState) (m : Memory) (t : ℕ) (g : Graph) : Type 0 where
+  pub formed : IsFormed g
+  pub is_sealed : g.sealed ≡ true
+  pub in_image : (o : Object) → IsIn o g.objects → is_in_image o.place ≡ true
+  pub pages : PagesHold m t no_homes g
+  pub classes : h.classes ≡ g.classes
+  pub none_in_use : (h.regions.in_use ≡ []) × (h.regions.from ≡ []) × (h.regions.objects ≡ 0)
+  pub count : h.regions.count ≡ 2 * g.budget
+  pub none_large : h.rows ≡ []
+  pub none_out : h.slots ≡ []
+  pub roots : addresses h.roots ≡ map (λ r. root_address (table_of no_homes g) r.holds) g.roots
+  pub space : IsSpace (lists_of h.regions)
+  pub sound : IsSound m
+  pub live : IsTrue (is_live m t)

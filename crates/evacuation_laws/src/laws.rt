@@ -13,7 +13,12 @@ ghost use Rattle.object_view.specs.declared.names.Slot.{Slot};
 ghost use Rattle.address_table.specs.Computed.{table_of, Homes, HouseAll};
 ghost use Rattle.graph_pages.specs.Pages.{PagesHold};
 ghost use Rattle.object_collection.specs.Collects.{state_of, CanCollect, HeapState, IsCollected, IsReached, LeavesPages};
-ghost use Rattle.evacuation_laws.specs.Stands.{homes_in, raws_of, HasSlotsOut, KeepsGraph, StandsFor};
+ghost use Rattle.evacuation_laws.specs.Stands.{homes_in, no_homes, raws_of, HasSealed, HasSlotsOut, KeepsGraph, StandsFor};
+
+/// A process that has just sealed its graph keeps it, without slots: nothing that is immune leads to what isn't.
+pub fn sealed_graphs_are_kept()
+    ensures { (h : HeapState) (m : Memory) (t : ℕ) (g : Graph) → HasSealed h m t g → KeepsGraph h m t no_homes g }
+{}
 
 /// An object that isn't immune is reached in the graph exactly where it is reached in memory.
 pub fn reached_objects_are_reached()
