@@ -1,13 +1,12 @@
 -- A process that has just sealed its graph keeps it.
-use Rattle.std.proofs.Common.{◌≡◌, ◌∙◌, ◌⊎◌, ℕ, ◌+◌, ◌*◌, ◌<◌, ◌≤◌, Bool, true, false, cond, List, [], ◌∷◌, ◌++◌, map, filter, length, refl, sym, ap, subst, inl, inr, arith, true≢false, pos}
+use Rattle.std.proofs.Common.{◌≡◌, ◌∙◌, ℕ, ◌*◌, Bool, true, false, cond, List, [], ◌∷◌, ◌++◌, map, filter, length, refl, sym, ap, subst, inl, inr, arith, true≢false, pos}
 use Rattle.std.specs.Prelude.{nat_eq, ◌||◌}
 use Rattle.std.specs.List.{list_any, IsDistinct}
 use Rattle.class_layout.specs.ClassList.{Class}
 use Rattle.class_layout.specs.declared.kind.Kind.TheVariants.{Ref}
 use Rattle.class_layout.specs.declared.kind.FieldAt.{FieldAt}
 use Rattle.class_layout.specs.Placing.{IsIn}
-use Rattle.page_tables.specs.Address.{page_of}
-use Rattle.cow_pages.specs.Memory.{HasOneSharer, Memory}
+use Rattle.cow_pages.specs.Memory.{Memory}
 use Rattle.heap_graph.specs.declared.names.Content.{Content}
 use Rattle.heap_graph.specs.declared.names.Content.TheVariants as content
 use Rattle.heap_graph.specs.declared.names.Place.{Place}
@@ -21,11 +20,10 @@ use Rattle.heap_graph.specs.Values.{value_at}
 use Rattle.heap_graph.proofs.Places.{value-fits}
 use Rattle.object_view.specs.declared.names.Slot.{Slot}
 use Rattle.object_view.specs.Seen.{seen_value, value_in}
-use Rattle.raw_objects.specs.Raws.{Raw, Raws}
+use Rattle.raw_objects.specs.Raws.{Raw}
 use Rattle.raw_objects.specs.References.{in_regions}
 use Rattle.address_table.specs.Computed.{large_behind, large_count, table_of, AreNumbers, HouseAll}
 use Rattle.region_lists.specs.Rows.{Row}
-use Rattle.region_space.specs.Packed.{Pack}
 use Rattle.region_space.specs.Space.{filled, lists_of}
 use Rattle.region_space.specs.Space as space
 use Rattle.large_objects.specs.declared.rows.LargeRow.{LargeRow}
@@ -128,7 +126,7 @@ module _ (h : HeapState) (m : Memory) (t : ℕ) (g : Graph) (s : HasSealed h m t
       let o : Object = from.object in
       let raw : (raws_of no_homes g).raw leads.object ≡ raw_under (table_of no_homes g) o = ap (raws_of no_homes g).raw (sym from.at_is) ∙ (raw-there no_homes g s.formed house o from.is_in).1 in
       let within : IsIn leads.place (places_of g.classes o.shape) =
-          subst (λ (r : Raw). IsIn leads.place (places_of g.classes r.shape)) raw (subst (λ cs. IsIn leads.place (places_of cs ((raws_of no_homes g).raw leads.object).shape)) s.classes leads.is_in) in
+      subst (λ (r : Raw). IsIn leads.place (places_of g.classes r.shape)) raw (subst (λ cs. IsIn leads.place (places_of cs ((raws_of no_homes g).raw leads.object).shape)) s.classes leads.is_in) in
       let off = held-off o leads.place slot.target.0 from.is_in within leads.kind_is (sym (ap (λ (r : Raw). r.values leads.place) raw) ∙ sym leads.target_is) in
       true≢false (sym leads.outside ∙ ap (λ rows. is_mortal rows slot.target.0) s.none_large ∙ ap (λ b. b || false) off)
 
