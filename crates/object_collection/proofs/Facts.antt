@@ -12,6 +12,7 @@ use Rattle.page_tables.specs.declared.address.Window.TheVariants.{Regions}
 use Rattle.page_tables.specs.Address.{is_in, page_of}
 use Rattle.cow_pages.specs.Memory.{HasOneSharer, Memory}
 use Rattle.heap_graph.specs.Places.{places_of}
+use Rattle.object_view.specs.declared.names.Slot.{Slot}
 use Rattle.object_view.proofs.Laid.{place-within, size-bounds}
 use Rattle.raw_objects.specs.Raws.{raw_size, Raws}
 use Rattle.raw_objects.specs.References.{in_regions}
@@ -22,7 +23,7 @@ use Rattle.region_space.proofs.LieLemmas.{all-both, any-holds, filled-within, li
 use Rattle.region_space.proofs.PageLemmas.{inside}
 use Rattle.large_objects.specs.declared.rows.LargeRow.{LargeRow}
 use Rattle.large_objects.specs.Pages.{covers, holds_page}
-use Rattle.large_objects.specs.Rows.{row_at, slot_base, waits}
+use Rattle.large_objects.specs.Rows.{row_at, slot_base, waits, IsBytes}
 use Rattle.large_objects.proofs.LawLemmas.{row-covers}
 use Rattle.large_objects.proofs.TableLemmas.{row-spot}
 use Rattle.live_objects.specs.Live.{addresses}
@@ -49,24 +50,24 @@ any-of f (y ∷ ys) x c is = elim (cons-cases y ys x c) [
 
 pub filter-in : {X : Type 0} (q : X → Bool) (xs : List X) (x : X) → Contains xs x → q x ≡ true → Contains (filter q xs) x
 filter-in q [] x c is = absurd (omega (arith, c.1))
-filter-in {X} q (y ∷ ys) x c is = by (q y) refl (cons-cases y ys x c)
+filter-in {X} q (y ∷ ys) x c is = by (q y) refl (λ later. filter-in q ys x later is) (cons-cases y ys x c)
   where
-    by : (b : Bool) → q y ≡ b → (y ≡ x) ⊎ Contains ys x → Contains (cond b (y ∷ filter q ys) (filter q ys)) x
-    by true e (inl same) = subst (λ (z : X). Contains (y ∷ filter q ys) z) same (in-first y (filter q ys))
-    by true e (inr later) = in-rest y (filter q ys) x (filter-in q ys x later is)
-    by false e (inl same) = absurd (true≢false (sym is ∙ ap q (sym same) ∙ e))
-    by false e (inr later) = filter-in q ys x later is
+    by : (b : Bool) → q y ≡ b → (Contains ys x → Contains (filter q ys) x) → (y ≡ x) ⊎ Contains ys x → Contains (cond b (y ∷ filter q ys) (filter q ys)) x
+    by true e rest (inl same) = subst (λ (z : X). Contains (y ∷ filter q ys) z) same (in-first y (filter q ys))
+    by true e rest (inr later) = in-rest y (filter q ys) x (rest later)
+    by false e rest (inl same) = absurd (true≢false (sym is ∙ ap q (sym same) ∙ e))
+    by false e rest (inr later) = rest later
 
 pub filter-from : {X : Type 0} (q : X → Bool) (xs : List X) (x : X) → Contains (filter q xs) x → Contains xs x × (q x ≡ true)
 filter-from q [] x c = absurd (omega (arith, c.1))
-filter-from {X} q (y ∷ ys) x c = by (q y) refl c
+filter-from {X} q (y ∷ ys) x c = by (q y) refl (filter-from q ys x) c
   where
-    by : (b : Bool) → q y ≡ b → Contains (cond b (y ∷ filter q ys) (filter q ys)) x → Contains (y ∷ ys) x × (q x ≡ true)
-    by true e there = elim (cons-cases y (filter q ys) x there) [
+    by : (b : Bool) → q y ≡ b → (Contains (filter q ys) x → Contains ys x × (q x ≡ true)) → Contains (cond b (y ∷ filter q ys) (filter q ys)) x → Contains (y ∷ ys) x × (q x ≡ true)
+    by true e rest there = elim (cons-cases y (filter q ys) x there) [
       | inl same ↦ (subst (λ (z : X). Contains (y ∷ ys) z) same (in-first y ys), ap q (sym same) ∙ e)
-      | inr later ↦ let it = filter-from q ys x later in (in-rest y ys x it.0, it.1)
+      | inr later ↦ let it = rest later in (in-rest y ys x it.0, it.1)
     ]
-    by false e there = let it = filter-from q ys x there in (in-rest y ys x it.0, it.1)
+    by false e rest there = let it = rest there in (in-rest y ys x it.0, it.1)
 
 pub all-at : {X : Type 0} (P : X → Type 0) (xs : List X) (x : X) → All P xs → Contains xs x → P x
 all-at P xs x all c = subst P c.2 (all c.0 x c.1)
@@ -101,6 +102,16 @@ waiting-row rows a is = by (row_at rows a) refl is
 
 pub mortal-cases : (rows : List LargeRow) (a : ℕ) → is_mortal rows a ≡ true → (in_regions a ≡ true) ⊎ IsWaiting rows a
 mortal-cases rows a is = elim (or_cases (in_regions a) (waits_in (row_at rows a)) is) [ inl young ↦ inl young | inr large ↦ inr (waiting-row rows a large) ]
+
+rest-true : (a b : Bool) → (a || true || b) ≡ true
+rest-true true b = refl
+rest-true false b = refl
+
+last-true : (a b : Bool) → (a || b || true) ≡ true
+last-true true true = refl
+last-true true false = refl
+last-true false true = refl
+last-true false false = refl
 
 -- OBJECTS
 
@@ -137,18 +148,27 @@ module _ (h : HeapState) (m : Memory) (t : ℕ) (raws : Raws) (can : CanCollect 
       let p : ℕ = page_of (a + i) in
       let low : page_of (slot_base row.slot) ≤ p = omega (arith, it.at_is) in
       let high : p ≤ page_of (slot_base row.slot + (row.bytes + 7) / 8 * 8 - 1) = omega (arith, it.at_is, bound) in
-      let holds : holds_page p row ≡ true = row-covers row p (all-at _ h.rows row can.large.rows.bytes it.is_in) ∙ and_from _ _ (le-leb (page_of (slot_base row.slot)) p low) (le-leb p (page_of (slot_base row.slot + (row.bytes + 7) / 8 * 8 - 1)) high) in
+      let holds : holds_page p row ≡ true = row-covers row p (all-at (λ (r : LargeRow). IsBytes r.bytes) h.rows row can.large.rows.bytes it.is_in) ∙ and_from (nat_le (page_of (slot_base row.slot)) p) (nat_le p (page_of (slot_base row.slot + (row.bytes + 7) / 8 * 8 - 1))) (le-leb (page_of (slot_base row.slot)) p low) (le-leb p (page_of (slot_base row.slot + (row.bytes + 7) / 8 * 8 - 1)) high) in
       let any : list_any (holds_page p) (filter waits h.rows) ≡ true = any-of (holds_page p) (filter waits h.rows) row (filter-in waits h.rows row it.is_in it.waits_is) holds in
       record { alone = can.large.alone p any; may = or_right (is_in Regions p) (list_any (holds_page p) (filter waits h.rows)) any }
 
   pub mortal-page : (a i : ℕ) → raws.has a ≡ true → is_mortal h.rows a ≡ true → i < raw_size h.classes raws a → IsFreePage (page_of (a + i))
   mortal-page a i has mortal less = elim (mortal-cases h.rows a mortal) [ inl young ↦ young-page a i has young less | inr large ↦ waiting-page a i large less ]
 
+  pub may-young : (p : ℕ) → is_in Regions p ≡ true → may_change h p ≡ true
+  may-young p is = ap (λ (b : Bool). b || list_any (holds_page p) (filter waits h.rows) || list_any (λ (slot : Slot). nat_eq (page_of slot.at.0) p) h.slots) is
+
+  pub may-large : (p : ℕ) → list_any (holds_page p) (filter waits h.rows) ≡ true → may_change h p ≡ true
+  may-large p is = ap (λ (b : Bool). is_in Regions p || b || list_any (λ (slot : Slot). nat_eq (page_of slot.at.0) p) h.slots) is ∙ rest-true (is_in Regions p) _
+
+  pub may-slot : (p : ℕ) → list_any (λ (slot : Slot). nat_eq (page_of slot.at.0) p) h.slots ≡ true → may_change h p ≡ true
+  may-slot p is = ap (λ (b : Bool). is_in Regions p || list_any (holds_page p) (filter waits h.rows) || b) is ∙ last-true (is_in Regions p) (list_any (holds_page p) (filter waits h.rows))
+
   -- such a page may change
   pub free-may : (p : ℕ) → IsFreePage p → may_change h p ≡ true
   free-may p it = elim (or_cases (is_in Regions p) (list_any (holds_page p) (filter waits h.rows)) it.may) [
-    | inl young ↦ or_left (is_in Regions p) _ young
-    | inr large ↦ or_right (is_in Regions p) _ (or_left (list_any (holds_page p) (filter waits h.rows)) _ large)
+    | inl young ↦ may-young p young
+    | inr large ↦ may-large p large
   ]
 
   -- a reference lies in its object

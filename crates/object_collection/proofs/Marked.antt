@@ -48,7 +48,7 @@ marked-more ats at [] = refl
 marked-more ats at (row ∷ rest) =
     let s : ℕ = slot_base row.slot in
     let any : list_any (nat_eq s) (addresses (ats ++ at ∷ [])) ≡ (list_any (nat_eq s) (addresses ats) || (nat_eq s at.0 || false))
-            = ap (list_any (nat_eq s)) (map-append (λ (a : Addr). a.0) ats (at ∷ [])) ∙ list_any-append (nat_eq s) (addresses ats) (at.0 ∷ []) in
+    = ap (list_any (nat_eq s)) (map-append (λ (a : Addr). a.0) ats (at ∷ [])) ∙ list_any-append (nat_eq s) (addresses ats) (at.0 ∷ []) in
     ap (λ (r : LargeRow). r ∷ map (marked_at at.0) (map (marked_by ats) rest)) (mark-step row row.marked (list_any (nat_eq s) (addresses ats)) (nat_eq s at.0) ∙ ap (λ (b : Bool). record row { marked = row.marked || b }) (sym any))
     ∙ ap (λ (rs : List LargeRow). marked_by (ats ++ at ∷ []) row ∷ rs) (marked-more ats at rest)
 
@@ -124,9 +124,13 @@ filter-next {X} p xs k d below =
 pub rows-few : (rows : List LargeRow) → AreRows rows → length rows ≤ 512
 rows-few rows are =
     let slots : List ℕ = map (λ (row : LargeRow). row.slot) rows in
-    omega (arith, length-map' rows, length-le_from_distinct_below slots 512 are.apart (λ q any.
-        let it = map-from (λ (row : LargeRow). row.slot) rows q (Contains-from_any eqb-true q slots any) in
-        subst (λ (n : ℕ). n < 512) it.2 (all-at (λ (row : LargeRow). row.slot < 512) rows it.0 are.within it.1)))
+    omega (
+      arith,
+      length-map' rows,
+      length-le_from_distinct_below slots 512 are.apart (λ q any.
+          let it = map-from (λ (row : LargeRow). row.slot) rows q (Contains-from_any eqb-true q slots any) in
+          subst (λ (n : ℕ). n < 512) it.2 (all-at (λ (row : LargeRow). row.slot < 512) rows it.0 are.within it.1)),
+    )
   where
     length-map' : (rs : List LargeRow) → length (map (λ (row : LargeRow). row.slot) rs) ≡ length rs
     length-map' [] = refl

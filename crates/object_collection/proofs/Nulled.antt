@@ -1,5 +1,5 @@
 -- After the weak references that lead to dead large objects were cleared.
-use Rattle.std.proofs.Common.{◌≡◌, ◌≢◌, ◌∙◌, ◌⊎◌, ◌||◌, ◌&&◌, ℕ, ◌+◌, ◌*◌, ◌%◌, ◌<◌, ◌≤◌, inl, inr, Bool, true, false, List, All, filter, get_or, length, map, nat_eq, refl, sym, ap, subst, arith, pos}
+use Rattle.std.proofs.Common.{◌≡◌, ◌≢◌, ◌∙◌, ◌⊎◌, ◌||◌, ◌&&◌, ℕ, ◌+◌, ◌*◌, ◌%◌, ◌<◌, ◌≤◌, inl, inr, Bool, true, false, List, [], ◌∷◌, All, filter, get_or, length, map, nat_eq, refl, sym, ap, subst, arith, pos}
 use Rattle.std.specs.Prelude.{IsTrue}
 use Rattle.std.specs.List.{list_any, Contains}
 use Rattle.std.proofs.lemmas.Bool.{eq-eqb, eqb-true, or_left, or_right}
@@ -20,26 +20,28 @@ use Rattle.raw_objects.specs.Raws.{raw_size, Raws}
 use Rattle.large_objects.specs.Pages.{holds_page}
 use Rattle.large_objects.specs.Rows.{waits}
 use Rattle.live_objects.specs.Live.{addresses}
+use Rattle.live_objects.proofs.YoungLemmas.{in-first, in-rest}
 use Rattle.weak_refs.specs.Weak.{dead_in, is_page_of, AreSlots}
 use Rattle.graph_pages.specs.Cleared.{nulled}
-use Rattle.object_collection.specs.declared.plan.Plan.{Plan}
 use Rattle.object_collection.specs.Collects.{may_change, CanCollect, HeapState}
-use Rattle.object_collection.specs.Phases.{stays_in, IsPlan}
-use Rattle.object_collection.proofs.Facts.{any-at, any-of, free-may, mortal-page, reached-has, reference-within}
+use Rattle.object_collection.specs.Phases.{stays_in, IsPlan, Listed}
+use Rattle.object_collection.proofs.Facts.{any-at, any-of, free-may, may-slot, mortal-page, reached-has, reference-within}
 
 pub all-of : {X : Type 0} (P : X → Type 0) (xs : List X) → ((x : X) → Contains xs x → P x) → All P xs
 all-of P xs f k d below = f (get_or xs k d) (k, below, get_or_default xs k (get_or xs k d) d below)
 
 -- a slot of a list stands in it
 pub slot-in : (slots : List Slot) (slot : Slot) → IsIn slot slots → Contains slots slot
-slot-in slots slot there = ?
+slot-in [] slot there = absurd there
+slot-in (x ∷ slots) slot (inl same) = subst (λ (s : Slot). Contains (x ∷ slots) s) same (in-first x slots)
+slot-in (x ∷ slots) slot (inr there) = in-rest x slots slot (slot-in slots slot there)
 
-module _ (h : HeapState) (m : Memory) (t : ℕ) (raws : Raws) (plan : Plan) (can : CanCollect h m t raws) (ok : IsPlan h m raws plan) where
+module _ (h : HeapState) (m : Memory) (t : ℕ) (raws : Raws) (plan : Listed) (can : CanCollect h m t raws) (ok : IsPlan h m raws plan) where
   abbrev pub cs : List Class
   cs = h.classes
 
   abbrev pub weak : List ℕ
-  weak = addresses plan.weak.items
+  weak = addresses plan.weak
 
   abbrev pub dead : List ℕ
   dead = dead_in (stays_in plan.stays) (view_of m t) weak
@@ -90,9 +92,10 @@ module _ (h : HeapState) (m : Memory) (t : ℕ) (raws : Raws) (plan : Plan) (can
         (subst (λ (n : ℕ). HasOneSharer m t (page_of n)) (sym it.at_is) free.alone, ap (λ (n : ℕ). may_change h (page_of n)) it.at_is ∙ free-may h m t raws can (page_of (it.object + it.place.offset)) free)
     | inr it ↦
         let p : ℕ = page_of it.slot.at.0 in
-        let any : list_any (λ (slot : Slot). nat_eq (page_of slot.at.0) p) h.slots ≡ true = any-of (λ (slot : Slot). nat_eq (page_of slot.at.0) p) h.slots it.slot (slot-in h.slots it.slot it.is_in) (eq-eqb p p refl) in
-        (subst (λ (n : ℕ). HasOneSharer m t (page_of n)) it.at_is (can.slots.alone it.slot it.is_in),
-          ap (λ (n : ℕ). may_change h (page_of n)) (sym it.at_is) ∙ or_right (is_in Regions p) _ (or_right (list_any (holds_page p) (filter waits h.rows)) _ any))
+        let any : list_any (λ (slot : Slot). nat_eq (page_of slot.at.0) p) h.slots ≡ true = any-of (λ (slot : Slot). nat_eq (page_of slot.at.0) p) h.slots it.slot (slot-in h.slots it.slot it.is_in) (eq-eqb p p refl) in (
+          subst (λ (n : ℕ). HasOneSharer m t (page_of n)) it.at_is (can.slots.alone it.slot it.is_in),
+          ap (λ (n : ℕ). may_change h (page_of n)) (sym it.at_is) ∙ may-slot h m t raws can p any,
+        )
   ]
 
   pub weak-alone : (p : ℕ) → is_page_of weak p ≡ true → HasOneSharer m t p

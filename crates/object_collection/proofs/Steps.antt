@@ -16,11 +16,11 @@ use Rattle.object_collection.specs.Phases.{CanMove}
 -- an element that a filter keeps is one of the list
 pub any-fewer : {X : Type 0} (f q : X → Bool) (xs : List X) → list_any f (filter q xs) ≡ true → list_any f xs ≡ true
 any-fewer f q [] is = is
-any-fewer f q (x ∷ xs) is = by (q x) is
+any-fewer f q (x ∷ xs) is = by (q x) is (any-fewer f q xs)
   where
-    by : (b : Bool) → list_any f (cond b (x ∷ filter q xs) (filter q xs)) ≡ true → (f x || list_any f xs) ≡ true
-    by true here = elim (or_cases (f x) (list_any f (filter q xs)) here) [ inl first ↦ or_left (f x) (list_any f xs) first | inr later ↦ or_right (f x) (list_any f xs) (any-fewer f q xs later) ]
-    by false later = or_right (f x) (list_any f xs) (any-fewer f q xs later)
+    by : (b : Bool) → list_any f (cond b (x ∷ filter q xs) (filter q xs)) ≡ true → (list_any f (filter q xs) ≡ true → list_any f xs ≡ true) → (f x || list_any f xs) ≡ true
+    by true here rest = elim (or_cases (f x) (list_any f (filter q xs)) here) [ inl first ↦ or_left (f x) (list_any f xs) first | inr later ↦ or_right (f x) (list_any f xs) (rest later) ]
+    by false later rest = or_right (f x) (list_any f xs) (rest later)
 
 -- the space with its regions in use as from regions
 abbrev pub flipped : Space → Space

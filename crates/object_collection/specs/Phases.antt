@@ -45,14 +45,29 @@ pub record ListsLarge (h : HeapState) (raws : Raws) (ats : List Addr) : Type 0 w
   pub only : (a : ℕ) → Contains (addresses ats) a ↔ ((in_regions a ≡ false) × IsReached h raws a)
   pub once : IsDistinct nat_eq (addresses ats)
 
--- what is listed before the first write; as many frames are free as the copies have pages
-pub record IsPlan (h : HeapState) (m : Memory) (raws : Raws) (plan : Plan) : Type 0 where
-  pub young : ListsYoung h.regions.in_use (IsReached h raws) plan.young.items
-  pub large : ListsLarge h raws plan.large.items
+-- the lists of a plan
+pub record Listed : Type 0 where
+  pub young : List Addr
+  pub large : List Addr
+  pub stays : Bits
+  pub weak : List Addr
+  pub turned : List Slot
+
+abbrev pub listed_in : Plan → Listed
+listed_in plan = record { young = plan.young.items; large = plan.large.items; stays = plan.stays; weak = plan.weak.items; turned = plan.turned.items }
+
+-- what is listed before the first write; the copies need no more regions than are in use, and as many frames are free as
+-- they have pages
+pub record IsPlan (h : HeapState) (m : Memory) (raws : Raws) (plan : Listed) : Type 0 where
+  pub young : ListsYoung h.regions.in_use (IsReached h raws) plan.young
+  pub large : ListsLarge h raws plan.large
   pub stays : AreStaying h raws plan.stays
-  pub weak : AreWeak h raws (addresses plan.weak.items)
-  pub turned : plan.turned.items ≡ filter leads_young h.slots
-  pub spare : packed_pages (sizes_at h.classes raws plan.young.items) ≤ m.spare
+  pub weak : AreWeak h raws (addresses plan.weak)
+  pub turned : plan.turned ≡ filter leads_young h.slots
+  pub once : (i j : ℕ) → i < j → j < length plan.young → at_of plan.young i ≢ at_of plan.young j
+  pub few : length plan.young ≤ h.regions.objects
+  pub room : parts_for region_bytes (end_from 0 (sizes_at h.classes raws plan.young)) ≤ length h.regions.in_use
+  pub spare : packed_pages (sizes_at h.classes raws plan.young) ≤ m.spare
 
 -- THE OBJECTS ARE COPIED
 

@@ -6,7 +6,7 @@ ghost use Rattle.object_view.specs.Seen.{RoseBy};
 ghost use Rattle.raw_objects.specs.Raws.{Raws};
 ghost use Rattle.large_objects.specs.Rows.{waits};
 ghost use Rattle.object_view.specs.declared.names.Slot.{Slot};
-ghost use Rattle.object_collection.specs.Phases.{IsPlan};
+ghost use Rattle.object_collection.specs.Phases.{listed_in, IsPlan};
 ghost use Rattle.object_collection.specs.Collects.{state_of, CanCollect, IsCollected, LeavesPages};
 
 use crate::phases::{clear_weak, drop_dead, move_young, turn_references, waiting};
@@ -70,15 +70,15 @@ fn carry_out(
 ) -> Kept
     requires sound { IsSound frames.old }
     requires plan { (slots : List Slot) × (raws : Raws) × CanCollect (state_of classes.now regions.old larges.old roots.old slots) frames.old t.0 raws
-        × IsPlan (state_of classes.now regions.old larges.old roots.old slots) frames.old raws plan }
+        × IsPlan (state_of classes.now regions.old larges.old roots.old slots) frames.old raws (listed_in plan) }
     ensures collected { (slots : List Slot) (raws : Raws) → CanCollect (state_of classes.now regions.old larges.old roots.old slots) frames.old t.0 raws
-        → IsPlan (state_of classes.now regions.old larges.old roots.old slots) frames.old raws plan
+        → IsPlan (state_of classes.now regions.old larges.old roots.old slots) frames.old raws (listed_in plan)
         → IsCollected (state_of classes.now regions.old larges.old roots.old slots) frames.new t.0 raws regions.new larges.new roots.new }
     ensures pages { (slots : List Slot) (raws : Raws) → CanCollect (state_of classes.now regions.old larges.old roots.old slots) frames.old t.0 raws
-        → IsPlan (state_of classes.now regions.old larges.old roots.old slots) frames.old raws plan
+        → IsPlan (state_of classes.now regions.old larges.old roots.old slots) frames.old raws (listed_in plan)
         → LeavesPages (state_of classes.now regions.old larges.old roots.old slots) frames.old frames.new t.0 }
     ensures reads { (slots : List Slot) (raws : Raws) → CanCollect (state_of classes.now regions.old larges.old roots.old slots) frames.old t.0 raws
-        → IsPlan (state_of classes.now regions.old larges.old roots.old slots) frames.old raws plan → RoseBy (4 * length slots) frames.old.reads frames.new.reads }
+        → IsPlan (state_of classes.now regions.old larges.old roots.old slots) frames.old raws (listed_in plan) → RoseBy (4 * length slots) frames.old.reads frames.new.reads }
     ensures only { OnlyTable frames.old frames.new t.0 }
     ensures kept { result.kept ≡ regions.new.objects + length (filter waits larges.new) }
     ensures freed { result.kept + result.freed ≡ regions.old.objects + length (filter waits larges.old) }
@@ -91,19 +91,12 @@ fn carry_out(
         weak,
         turned,
     } = plan;
+    let (young, large) = (young.as_mut_slice(), large.as_slice());
     let before = regions.objects() + waiting(larges);
     clear_weak(frames, t, stays, weak.as_slice());
-    move_young(frames, classes, t, young.as_mut_slice(), regions);
-    turn_references(
-        frames,
-        classes,
-        t,
-        young.as_slice(),
-        large.as_slice(),
-        turned.as_slice(),
-        roots,
-    );
-    drop_dead(frames, t, regions, larges, large.as_slice());
+    move_young(frames, classes, t, young, regions);
+    turn_references(frames, classes, t, young, large, turned.as_slice(), roots);
+    drop_dead(frames, t, regions, larges, large);
     let kept = regions.objects() + waiting(larges);
     Kept {
         kept,

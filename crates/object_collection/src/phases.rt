@@ -16,7 +16,7 @@ ghost use Rattle.region_space.specs.Space.{filled, lists_of, IsSpace};
 ghost use Rattle.region_space.specs.Space.{AreAlone as AreRegionsAlone, HasPages as HasRegionPages, holds_page as region_page};
 ghost use Rattle.large_objects.specs.declared.rows.LargeRow.{LargeRow};
 ghost use Rattle.large_objects.specs.Pages.{AreAlone, HasPages, holds_page};
-ghost use Rattle.large_objects.specs.Rows.{row_at, slot_base, waits};
+ghost use Rattle.large_objects.specs.Rows.{row_at, waits, AreRows};
 ghost use Rattle.live_objects.specs.Live.{addresses};
 ghost use Rattle.live_objects.specs.Reach.{in_large};
 ghost use Rattle.object_moves.specs.Copies.{at_of, KeepsOutside};
@@ -135,6 +135,8 @@ pub fn drop_dead(
     large: &[Addr],
 )
     requires live { IsTrue (is_live frames.old t.0) }
+    requires space { IsSpace (lists_of regions.old) }
+    requires are_rows { AreRows larges.old }
     requires region_pages { HasRegionPages frames.old t.0 (filled (lists_of regions.old)) }
     requires region_alone { AreRegionsAlone frames.old t.0 regions.old.from }
     requires pages { HasPages frames.old t.0 larges.old }

@@ -7,7 +7,7 @@ ghost use Rattle.cow_pages.specs.Memory.{IsSound};
 ghost use Rattle.large_objects.specs.declared.rows.LargeRow.{LargeRow};
 ghost use Rattle.raw_objects.specs.Raws.{Raws};
 ghost use Rattle.object_collection.specs.Collects.{state_of, CanCollect};
-ghost use Rattle.object_collection.specs.Phases.{IsPlan};
+ghost use Rattle.object_collection.specs.Phases.{listed_in, IsPlan};
 
 use crate::lists::{pages_for, slot_addresses, young_slots};
 use crate::weak::weak_slots;
@@ -44,7 +44,7 @@ pub fn plan_collection(
 ) -> Result<Plan, AllocError>
     requires { (raws : Raws) × CanCollect (state_of classes.now regions.now larges.now roots.now slots.now) frames.old t.0 raws }
     ensures plan { IfOk result (λ plan. (raws : Raws) → CanCollect (state_of classes.now regions.now larges.now roots.now slots.now) frames.old t.0 raws
-        → IsPlan (state_of classes.now regions.now larges.now roots.now slots.now) frames.new raws plan) }
+        → IsPlan (state_of classes.now regions.now larges.now roots.now slots.now) frames.new raws (listed_in plan)) }
     ensures rest { frames.new ≡ record frames.old { frames = frames.new.frames; leaf_count = frames.new.leaf_count; spare = frames.new.spare } }
     ensures err { OnErr result (frames.new ≡ frames.old) }
     ensures sound { OnOk result (IsSound frames.new) }

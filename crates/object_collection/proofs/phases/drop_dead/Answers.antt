@@ -1,46 +1,31 @@
-use Rattle.std.proofs.Common.{rules, ◌≡◌, ℕ, ◌||◌, ◌<◌, ◌≤◌, Bool, true, false, IsTrue, All, [], filter, is_some, length, map, ◌+◌, ◌-◌, ◌*◌, ◌/◌, ◌%◌, nat_eq, nat_lt, List, ◌∷◌, ◌++◌, slice_index_or, slice_set, bit_and, bit_or, Fits, w8, w32, w64, Bor, MutBor}
-use Rattle.std.specs.List.{list_any, Contains}
-use Rattle.model_numbers.specs.Numbers.{large_slot_count, region_base}
-use Rattle.bit_set.specs.Bits.{room}
-use Rattle.cow_pages.specs.Memory.{is_live, HasOneSharer, IsSound}
-use Rattle.cow_pages.specs.Only.{OnlyTable}
-use Rattle.cow_pages.specs.View.{view_of}
-use Rattle.page_tables.specs.Address.{page_of}
-use Rattle.object_view.specs.Changes.{reads_after_all}
-use Rattle.raw_objects.specs.Keeps.{Keeps}
-use Rattle.raw_objects.specs.Raws.{HoldsRaws, Raws}
-use Rattle.raw_objects.specs.References.{turned_where}
-use Rattle.weak_refs.specs.Weak.{dead_in, is_page_of, AreSlots, ClearsSlots}
-use Rattle.region_space.specs.Space.{filled, lists_of, IsSpace}
-use Rattle.region_space.specs.Space.{AreAlone as AreRegionsAlone}
-use Rattle.region_space.specs.Space.{HasPages as HasRegionPages}
-use Rattle.region_space.specs.Space.{holds_page as region_page}
+use Rattle.std.proofs.Common.{◌≡◌, ◌∙◌, List, map, filter, sym, ap, subst}
 use Rattle.large_objects.specs.declared.rows.LargeRow.{LargeRow}
-use Rattle.large_objects.specs.Pages.{AreAlone, HasPages, holds_page}
-use Rattle.large_objects.specs.Rows.{row_at, slot_base, waits}
-use Rattle.live_objects.specs.Live.{addresses}
-use Rattle.live_objects.specs.Reach.{in_large}
-use Rattle.object_moves.specs.Copies.{at_of, KeepsOutside}
-use Rattle.object_moves.specs.Turns.{gone_to, slot_of, ObjectsWithin}
-use Rattle.object_collection.specs.Phases.{goes_by, is_turned, marked_by, stays_by, stays_in, CanMove, CanTurn, HaveMoved, LosesPages}
+use Rattle.large_objects.specs.Pages.{AreAlone, HasPages, ReleasesRows}
+use Rattle.large_objects.specs.Rows.{dead, swept}
+use Rattle.region_space.specs.Space.{filled, lists_of}
+use Rattle.object_collection.proofs.Dropping.{all-lost, marked-alone, marked-pages, regions-kept}
+use Rattle.object_collection.proofs.Marked.{swept-marked}
 use Rattle.object_collection.proofs.phases.drop_dead.Goals as goal
 
--- src/phases.rt:156:5
 pub sweep-requires-clause-pages : goal.sweep-requires-clause-pages
-sweep-requires-clause-pages c = ?
+sweep-requires-clause-pages c =
+    subst (λ (rows : List LargeRow). HasPages c.drop_from.new.frames c.args.t.0 rows) (sym c.mark_all.ensures)
+    (marked-pages _ _ _ (lists_of c.args.regions.now) _ c.args.large.now c.requires.space c.requires.are_rows c.requires.unmarked c.drop_from.ensures.releases c.drop_from.ensures.only c.requires.pages)
 
--- src/phases.rt:156:5
 pub sweep-requires-clause-alone : goal.sweep-requires-clause-alone
-sweep-requires-clause-alone c = ?
+sweep-requires-clause-alone c =
+    subst (λ (rows : List LargeRow). AreAlone c.drop_from.new.frames c.args.t.0 (dead rows)) (sym c.mark_all.ensures)
+    (marked-alone _ _ _ (lists_of c.args.regions.now) _ c.args.large.now c.requires.space c.requires.are_rows c.requires.unmarked c.drop_from.ensures.releases c.drop_from.ensures.only c.requires.pages c.requires.alone)
 
--- src/phases.rt:130:1
 pub returns-clause-rows : goal.returns-clause-rows
-returns-clause-rows c = ?
+returns-clause-rows c = c.sweep.ensures.rows ∙ ap (λ (rows : List LargeRow). swept rows) c.mark_all.ensures ∙ swept-marked c.args.large.now c.args.larges.now c.requires.unmarked
 
--- src/phases.rt:130:1
 pub returns-clause-loses : goal.returns-clause-loses
-returns-clause-loses c = ?
+returns-clause-loses c =
+    all-lost _ _ _ (lists_of c.args.regions.now) _ c.args.large.now c.requires.space c.requires.are_rows c.requires.unmarked c.drop_from.ensures.releases c.drop_from.ensures.only _
+    (subst (λ (rows : List LargeRow). ReleasesRows c.drop_from.new.frames c.sweep.new.frames c.args.t.0 (dead rows)) c.mark_all.ensures c.sweep.ensures.releases)
 
--- src/phases.rt:130:1
 pub returns-clause-region_pages : goal.returns-clause-region_pages
-returns-clause-region_pages c = ?
+returns-clause-region_pages c =
+    regions-kept _ _ _ (lists_of c.args.regions.now) _ c.args.large.now c.requires.space c.requires.are_rows c.requires.unmarked c.drop_from.ensures.releases c.drop_from.ensures.only _
+    (subst (λ (rows : List LargeRow). ReleasesRows c.drop_from.new.frames c.sweep.new.frames c.args.t.0 (dead rows)) c.mark_all.ensures c.sweep.ensures.releases) (filled (lists_of c.drop_from.new.self)) c.drop_from.ensures.pages

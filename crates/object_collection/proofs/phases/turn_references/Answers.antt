@@ -28,9 +28,13 @@ turn_slots-requires c =
     let first = none-first cs c.args.frames.now c.args.t.0 raws ok.holds in
     let keeps = c.turn_all.ensures.keeps raws none_turned (λ (p : ℕ). true) first ok.young (λ i below p low high. refl) in
     let second = c.turn_all.ensures.held raws none_turned first ok.young in
-    let again = c.turn_all-2.ensures.keeps raws (young_turned cs raws young) (λ (p : ℕ). true) second ok.large (λ i below p low high. refl) in
-    (cs, raws, objects_turned cs raws young c.args.large.now, c.turn_all-2.ensures.held raws (young_turned cs raws young) second ok.large,
-      slots-alone cs _ _ c.args.t.0 raws (λ (p : ℕ). true) c.args.slots.now ok.holds (keeps-then _ _ _ _ _ keeps again) ok.slots)
+    let again = c.turn_all-2.ensures.keeps raws (young_turned cs raws young) (λ (p : ℕ). true) second ok.large (λ i below p low high. refl) in (
+      cs,
+      raws,
+      objects_turned cs raws young c.args.large.now,
+      c.turn_all-2.ensures.held raws (young_turned cs raws young) second ok.large,
+      slots-alone cs _ _ c.args.t.0 raws (λ (p : ℕ). true) c.args.slots.now ok.holds (keeps-then _ _ _ _ _ keeps again) ok.slots,
+    )
 
 pub turn_roots-requires : goal.turn_roots-requires
 turn_roots-requires c =
@@ -43,9 +47,12 @@ turn_roots-requires c =
     let second = c.turn_all.ensures.held raws none_turned first ok.young in
     let again = c.turn_all-2.ensures.keeps raws (young_turned cs raws young) (λ (p : ℕ). true) second ok.large (λ i below p low high. refl) in
     let third = c.turn_all-2.ensures.held raws (young_turned cs raws young) second ok.large in
-    let slots = slots-alone cs _ _ c.args.t.0 raws (λ (p : ℕ). true) c.args.slots.now ok.holds (keeps-then _ _ _ _ _ keeps again) ok.slots in
-    (cs, turned_where raws (is_turned cs raws (record { young = young; large = c.args.large.now; slots = c.args.slots.now })),
-      c.turn_slots.ensures.held cs raws (objects_turned cs raws young c.args.large.now) third slots, ok.targets)
+    let slots = slots-alone cs _ _ c.args.t.0 raws (λ (p : ℕ). true) c.args.slots.now ok.holds (keeps-then _ _ _ _ _ keeps again) ok.slots in (
+      cs,
+      turned_where raws (is_turned cs raws (record { young = young; large = c.args.large.now; slots = c.args.slots.now })),
+      c.turn_slots.ensures.held cs raws (objects_turned cs raws young c.args.large.now) third slots,
+      ok.targets,
+    )
 
 pub returns-clause-held : goal.returns-clause-held
 returns-clause-held c raws ok =

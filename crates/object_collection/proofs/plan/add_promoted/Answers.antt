@@ -66,14 +66,15 @@ loop-row-preserved c =
 pub returns-clause-slots : goal.returns-clause-slots
 returns-clause-slots c row there =
     let items : List LargeRow = c.rows-row-items.result.now in
-    let in_items : Contains items row = subst (λ (rows : List LargeRow). Contains rows row) (sym c.rows-row-items.ensures.rows) there in
-    (λ is. c.loop-row.invariant.only row in_items is,
+    let in_items : Contains items row = subst (λ (rows : List LargeRow). Contains rows row) (sym c.rows-row-items.ensures.rows) there in (
+      λ is. c.loop-row.invariant.only row in_items is,
       λ either. elim either [
         | inl promoted ↦
             let is : get_or items in_items.0 row ≡ row = in_items.2 in
             ap (λ (x : LargeRow). is_member c.loop-row.slots x.slot) (sym is) ∙ c.loop-row.invariant.done in_items.0 row (omega (arith, in_items.1)) (ap (λ (x : LargeRow). x.promoted) is ∙ promoted)
         | inr before ↦ c.loop-row.invariant.stay row.slot before
-      ])
+      ],
+    )
 
 pub returns-clause-room : goal.returns-clause-room
 returns-clause-room c = c.loop-row.invariant.same_room
