@@ -12,3 +12,4 @@ pub mod Held
 pub mod Can
 pub mod Kept
 pub mod Sealed
+pub mod Counted

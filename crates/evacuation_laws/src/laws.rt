@@ -1,14 +1,15 @@
 //! Laws about a graph that a process holds in its pages: what is reached, that it can be collected, and what a collection of
 //! its memory leaves.
-ghost use Rattle.std.specs.Prelude.{◌≡◌, ◌↔◌, ℕ, true, false, List};
+ghost use Rattle.std.specs.Prelude.{◌≡◌, ◌↔◌, ℕ, ◌+◌, true, false, filter, length, List};
 ghost use Rattle.class_layout.specs.Placing.{IsIn};
 ghost use Rattle.cow_pages.specs.Memory.{Memory};
 ghost use Rattle.page_tables.specs.declared.address.Addr.{Addr};
-ghost use Rattle.heap_graph.specs.Collection.{collect};
+ghost use Rattle.heap_graph.specs.Collection.{collect, freed_count, loose_count};
 ghost use Rattle.heap_graph.specs.Graph.{is_immune, Graph, Object};
 ghost use Rattle.heap_graph.specs.Reach.{is_among, reached};
 ghost use Rattle.region_space.specs.Space.{Space};
 ghost use Rattle.large_objects.specs.declared.rows.LargeRow.{LargeRow};
+ghost use Rattle.large_objects.specs.Rows.{waits};
 ghost use Rattle.object_view.specs.declared.names.Slot.{Slot};
 ghost use Rattle.address_table.specs.Computed.{table_of, Homes, HouseAll};
 ghost use Rattle.graph_pages.specs.Pages.{PagesHold};
@@ -49,4 +50,11 @@ pub fn collected_graphs_are_kept()
         → IsCollected h new t (raws_of homes g) regions rows roots → LeavesPages h old new t
         → HasSlotsOut (state_of h.classes regions rows roots slots) (raws_of (homes_in regions.in_use rows) (collect g))
         → KeepsGraph (state_of h.classes regions rows roots slots) new t (homes_in regions.in_use rows) (collect g) }
+{}
+
+/// The objects of the regions and the rows that wait are as many as the objects that aren't immune. Of these a collection of
+/// the graph frees those that it doesn't keep.
+pub fn mortal_objects_are_counted()
+    ensures counted { (h : HeapState) (g : Graph) (homes : Homes) → g.sealed ≡ true → StandsFor h g homes → h.regions.objects + length (filter waits h.rows) ≡ loose_count g }
+    ensures freed { (g : Graph) → loose_count (collect g) + freed_count g (collect g) ≡ loose_count g }
 {}

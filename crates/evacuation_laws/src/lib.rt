@@ -5,5 +5,5 @@ mod laws;
 
 pub use laws::{
     collected_graphs_are_held, collected_graphs_are_kept, graphs_can_be_collected,
-    reached_objects_are_reached, sealed_graphs_are_kept,
+    mortal_objects_are_counted, reached_objects_are_reached, sealed_graphs_are_kept,
 };
