@@ -1,5 +1,5 @@
 -- How many objects aren't immune, and how many of them a collection frees.
-use Rattle.std.proofs.Common.{◌≡◌, ◌∙◌, ℕ, ◌+◌, ◌-◌, ◌≤◌, Bool, true, false, cond, not, List, [], ◌∷◌, map, filter, length, refl, sym, ap, subst, inl, inr, arith, true≢false}
+use Rattle.std.proofs.Common.{◌≡◌, ◌∙◌, ℕ, ◌+◌, ◌≤◌, Bool, true, false, cond, not, List, [], ◌∷◌, map, filter, length, refl, sym, ap, subst, arith}
 use Rattle.std.specs.Prelude.{count_by, ◌||◌}
 use Rattle.std.proofs.lemmas.List.Sums.{sum_by-cons}
 use Rattle.class_layout.specs.ClassList.{Class}
@@ -7,7 +7,6 @@ use Rattle.heap_graph.specs.declared.names.Place.{Place}
 use Rattle.heap_graph.specs.declared.names.Place.TheVariants as place
 use Rattle.heap_graph.specs.Collection.{cleared, collect, freed_count, is_kept, loose_count}
 use Rattle.heap_graph.specs.Graph.{is_immune, is_young, Graph, Object}
-use Rattle.heap_graph.specs.Packing.{young_objects}
 use Rattle.heap_graph.specs.Paths.{numbers}
 use Rattle.heap_graph.specs.Reach.{is_among, reached}
 use Rattle.large_objects.specs.declared.rows.LargeRow.{LargeRow}
