@@ -14,7 +14,7 @@ use Rattle.graph_pages.specs.Collected.{turned_by}
 use Rattle.heap_graph.specs.Places.{places_of}
 use Rattle.object_view.specs.declared.names.Slot.{Slot}
 use Rattle.raw_objects.specs.Raws.{raw_size, Raw, Raws, SameRaw}
-use Rattle.raw_objects.specs.References.{in_regions}
+use Rattle.raw_objects.specs.References.{in_regions, now_at}
 use Rattle.region_space.specs.Space.{lists_of, Space}
 use Rattle.large_objects.specs.declared.rows.LargeRow.{LargeRow}
 use Rattle.large_objects.specs.Rows.{row_at, slot_base, waits, AreRows}
@@ -78,10 +78,11 @@ pub record AreLarge (h : HeapState) (m : Memory) (t : ℕ) (raws : Raws) : Type 
   pub only : (a : ℕ) → raws.has a ≡ true → in_large a ≡ true → IsTrue (is_some (row_at h.rows a))
 
 -- what a collection stands on: memory holds the objects, those of the regions and of the large window are the ones that the
--- process knows of, and each root and reference holds null or an object
+-- process knows of, no object of the regions tells that it moved, and each root and reference holds null or an object
 pub record CanCollect (h : HeapState) (m : Memory) (t : ℕ) (raws : Raws) : Type 0 where
   pub held : HoldsRegions h.classes m t (lists_of h.regions) raws
   pub young : (ats : List Addr) × AreYoung h raws ats
+  pub unmoved : (a : ℕ) → raws.has a ≡ true → in_regions a ≡ true → now_at (raws.raw a).header ≡ 0
   pub large : AreLarge h m t raws
   pub slots : AreSlotsOut h m t raws
   pub roots : (a : ℕ) → Contains (addresses h.roots) a → IsFound raws a

@@ -1,2 +1,4 @@
 pub mod Collects
 pub mod Listed
+pub mod Phases
+pub mod Weaks

@@ -4,6 +4,8 @@
 
 mod collect;
 mod lists;
+mod phases;
+mod plan;
 mod weak;
 
 pub use collect::{Kept, collect_objects};

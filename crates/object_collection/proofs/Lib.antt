@@ -1,0 +1,14 @@
+pub mod Steps
+pub mod Facts
+pub mod Turnings
+pub mod Nulled
+pub mod Marked
+pub mod Dropping
+pub mod Growing
+pub mod PageLemmas
+pub mod Room
+pub mod WeakLemmas
+pub mod AllWeak
+pub mod Running
+pub mod Sizes
+pub mod Final
