@@ -1,0 +1,16 @@
+pub mod Members
+pub mod Rows
+pub mod Stand
+pub mod Found
+pub mod Reach
+pub mod Young
+pub mod Packed
+pub mod Left
+pub mod Turned
+pub mod Pages
+pub mod Held
+pub mod Can
+pub mod Outcomes
+pub mod Kept
+pub mod Sealed
+pub mod Counted

@@ -1,0 +1,59 @@
+//! A collection of the graph that a process holds in its pages.
+ghost use Rattle.std.specs.Prelude.{◌≡◌, ℕ, ◌+◌, ◌*◌, IfOk, OnOk, OnErr, List, filter, length};
+ghost use Rattle.cow_pages.specs.Memory.{IsSound};
+ghost use Rattle.cow_pages.specs.Only.{OnlyTable};
+ghost use Rattle.heap_graph.specs.Collection.{collect, freed_count, loose_count};
+ghost use Rattle.heap_graph.specs.Graph.{Graph};
+ghost use Rattle.object_view.specs.declared.names.Slot.{Slot};
+ghost use Rattle.object_view.specs.Seen.{RoseBy};
+ghost use Rattle.address_table.specs.Computed.{Homes, HouseAll};
+ghost use Rattle.graph_pages.specs.Pages.{PagesHold};
+ghost use Rattle.object_collection.specs.Collects.{state_of, LeavesPages};
+ghost use Rattle.evacuate.specs.Stands.{homes_in, raws_of, HasSlotsOut, KeepsGraph, StandsFor};
+
+use class_layout::Classes;
+use cow_pages::{Addr, Frames, TableNo};
+use large_objects::Larges;
+use object_collection::{Kept, collect_objects};
+use object_view::Slot;
+use region_space::Regions;
+use std::alloc::{AllocError, Global};
+
+/// Collects the sealed graph that a process holds in its pages. `slots` are the references of immune objects that lead to
+/// objects which aren't immune, each once; their pages, those of the regions, and those of large objects that no fork
+/// promoted have their frames alone.
+///
+/// Afterwards the pages hold the collected graph, the regions its young objects, packed by rising number, and the roots the
+/// addresses of their objects. It tells how many objects that aren't immune it kept, and how many it freed. All memory is
+/// taken before the first write, so after `AllocError` nothing has changed. It makes at most four reads for each slot that
+/// are counted.
+pub fn collect(
+    alloc: Global,
+    frames: &mut Frames,
+    t: TableNo,
+    classes: &Classes,
+    roots: &mut [Addr],
+    slots: &[Slot],
+    regions: &mut Regions,
+    larges: &mut Larges,
+) -> Result<Kept, AllocError>
+    requires { (homes : Homes) × (g : Graph) × KeepsGraph (state_of classes.now regions.old larges.old roots.old slots.now) frames.old t.0 homes g }
+    ensures held { OnOk result ((homes : Homes) (g : Graph) → KeepsGraph (state_of classes.now regions.old larges.old roots.old slots.now) frames.old t.0 homes g
+        → PagesHold frames.new t.0 (homes_in regions.new.in_use larges.new) (collect g)) }
+    ensures housed { OnOk result ((homes : Homes) (g : Graph) → KeepsGraph (state_of classes.now regions.old larges.old roots.old slots.now) frames.old t.0 homes g
+        → HouseAll (homes_in regions.new.in_use larges.new) (collect g)) }
+    ensures stands { OnOk result ((homes : Homes) (g : Graph) (further : List Slot) → KeepsGraph (state_of classes.now regions.old larges.old roots.old slots.now) frames.old t.0 homes g
+        → StandsFor (state_of classes.now regions.new larges.new roots.new further) (collect g) (homes_in regions.new.in_use larges.new)) }
+    ensures keeps { OnOk result ((homes : Homes) (g : Graph) (further : List Slot) → KeepsGraph (state_of classes.now regions.old larges.old roots.old slots.now) frames.old t.0 homes g
+        → HasSlotsOut (state_of classes.now regions.new larges.new roots.new further) (raws_of (homes_in regions.new.in_use larges.new) (collect g))
+        → KeepsGraph (state_of classes.now regions.new larges.new roots.new further) frames.new t.0 (homes_in regions.new.in_use larges.new) (collect g)) }
+    ensures counts { IfOk result (λ it. (homes : Homes) (g : Graph) → KeepsGraph (state_of classes.now regions.old larges.old roots.old slots.now) frames.old t.0 homes g
+        → (it.kept ≡ loose_count (collect g)) × (it.freed ≡ freed_count g (collect g))) }
+    ensures pages { OnOk result (LeavesPages (state_of classes.now regions.old larges.old roots.old slots.now) frames.old frames.new t.0) }
+    ensures only { OnlyTable frames.old frames.new t.0 }
+    ensures reads { OnOk result (RoseBy (4 * length slots.now) frames.old.reads frames.new.reads) }
+    ensures err { OnErr result ((frames.new ≡ frames.old) × (roots.new ≡ roots.old) × (regions.new ≡ regions.old) × (larges.new ≡ larges.old)) }
+    ensures sound { IsSound frames.new }
+{
+    collect_objects(alloc, frames, t, classes, roots, slots, regions, larges)
+}

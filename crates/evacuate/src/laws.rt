@@ -1,0 +1,60 @@
+//! Laws about a graph that a process holds in its pages: what is reached, that it can be collected, and what a collection of
+//! its memory leaves.
+ghost use Rattle.std.specs.Prelude.{◌≡◌, ◌↔◌, ℕ, ◌+◌, true, false, filter, length, List};
+ghost use Rattle.class_layout.specs.Placing.{IsIn};
+ghost use Rattle.cow_pages.specs.Memory.{Memory};
+ghost use Rattle.page_tables.specs.declared.address.Addr.{Addr};
+ghost use Rattle.heap_graph.specs.Collection.{collect, freed_count, loose_count};
+ghost use Rattle.heap_graph.specs.Graph.{is_immune, Graph, Object};
+ghost use Rattle.heap_graph.specs.Reach.{is_among, reached};
+ghost use Rattle.region_space.specs.Space.{Space};
+ghost use Rattle.large_objects.specs.declared.rows.LargeRow.{LargeRow};
+ghost use Rattle.large_objects.specs.Rows.{waits};
+ghost use Rattle.object_view.specs.declared.names.Slot.{Slot};
+ghost use Rattle.address_table.specs.Computed.{table_of, Homes, HouseAll};
+ghost use Rattle.graph_pages.specs.Pages.{PagesHold};
+ghost use Rattle.object_collection.specs.Collects.{state_of, CanCollect, HeapState, IsCollected, IsReached, LeavesPages};
+ghost use Rattle.evacuate.specs.Stands.{homes_in, no_homes, raws_of, HasSealed, HasSlotsOut, KeepsGraph, StandsFor};
+
+/// A process that has just sealed its graph keeps it, without slots: nothing that is immune leads to what isn't.
+pub fn sealed_graphs_are_kept()
+    ensures { (h : HeapState) (m : Memory) (t : ℕ) (g : Graph) → HasSealed h m t g → KeepsGraph h m t no_homes g }
+{}
+
+/// An object that isn't immune is reached in the graph exactly where it is reached in memory.
+pub fn reached_objects_are_reached()
+    ensures { (h : HeapState) (m : Memory) (t : ℕ) (homes : Homes) (g : Graph) (o : Object) → KeepsGraph h m t homes g → IsIn o g.objects
+        → ((is_among (reached g) o.number ≡ true) × (is_immune g.sealed o.place ≡ false)) ↔ IsReached h (raws_of homes g) (table_of homes g o.number) }
+{}
+
+/// The objects of a graph that a process holds can be collected.
+pub fn graphs_can_be_collected()
+    ensures { (h : HeapState) (m : Memory) (t : ℕ) (homes : Homes) (g : Graph) → KeepsGraph h m t homes g → CanCollect h m t (raws_of homes g) }
+{}
+
+/// After a collection of the objects the pages hold the collected graph, where the regions in use and the rows now say, and
+/// what the process keeps stands for it.
+pub fn collected_graphs_are_held()
+    ensures held { (h : HeapState) (old new : Memory) (t : ℕ) (homes : Homes) (g : Graph) (regions : Space) (rows : List LargeRow) (roots : List Addr) → KeepsGraph h old t homes g
+        → IsCollected h new t (raws_of homes g) regions rows roots → LeavesPages h old new t → PagesHold new t (homes_in regions.in_use rows) (collect g) }
+    ensures housed { (h : HeapState) (old new : Memory) (t : ℕ) (homes : Homes) (g : Graph) (regions : Space) (rows : List LargeRow) (roots : List Addr) → KeepsGraph h old t homes g
+        → IsCollected h new t (raws_of homes g) regions rows roots → HouseAll (homes_in regions.in_use rows) (collect g) }
+    ensures stands { (h : HeapState) (old new : Memory) (t : ℕ) (homes : Homes) (g : Graph) (regions : Space) (rows : List LargeRow) (roots : List Addr) (slots : List Slot) → KeepsGraph h old t homes g
+        → IsCollected h new t (raws_of homes g) regions rows roots → StandsFor (state_of h.classes regions rows roots slots) (collect g) (homes_in regions.in_use rows) }
+{}
+
+/// So the process keeps the collected graph as it kept the graph before, with the slots that are to be kept now: the next
+/// collection stands on it.
+pub fn collected_graphs_are_kept()
+    ensures { (h : HeapState) (old new : Memory) (t : ℕ) (homes : Homes) (g : Graph) (regions : Space) (rows : List LargeRow) (roots : List Addr) (slots : List Slot) → KeepsGraph h old t homes g
+        → IsCollected h new t (raws_of homes g) regions rows roots → LeavesPages h old new t
+        → HasSlotsOut (state_of h.classes regions rows roots slots) (raws_of (homes_in regions.in_use rows) (collect g))
+        → KeepsGraph (state_of h.classes regions rows roots slots) new t (homes_in regions.in_use rows) (collect g) }
+{}
+
+/// The objects of the regions and the rows that wait are as many as the objects that aren't immune. Of these a collection of
+/// the graph frees those that it doesn't keep.
+pub fn mortal_objects_are_counted()
+    ensures counted { (h : HeapState) (g : Graph) (homes : Homes) → g.sealed ≡ true → StandsFor h g homes → h.regions.objects + length (filter waits h.rows) ≡ loose_count g }
+    ensures freed { (g : Graph) → loose_count (collect g) + freed_count g (collect g) ≡ loose_count g }
+{}
