@@ -26,7 +26,7 @@ use Rattle.region_lists.specs.Rows.{Lists, Row}
 use Rattle.region_lists.proofs.MoveLemmas.{all-left}
 use Rattle.region_space.specs.Space as space
 use Rattle.region_space.specs.Space.{IsFilled, IsSpace}
-use Rattle.region_space.specs.Pages.{covers}
+use Rattle.page_runs.specs.Covered.{covers}
 use Rattle.region_space.proofs.DropLemmas.{held-run}
 use Rattle.large_objects.specs.declared.rows.LargeRow.{LargeRow}
 use Rattle.large_objects.specs.Rows.{slot_base, IsBytes}
@@ -138,8 +138,8 @@ module _ (homes : Homes) (g : Graph) (formed : IsFormed g) (house : HouseAll hom
       → large.holds_page p row ≡ has_bytes_in cs table p o
   row-bytes row p o index promoted is at bytes =
       row-covers row p bytes
-      ∙ ap (λ (r : LargeRow). large.covers (slot_base r.slot) ((r.bytes + 7) / 8 * 8) p) (sym is)
-      ∙ ap (λ a. large.covers a (size_in cs o.shape) p) (sym at)
+      ∙ ap (λ (r : LargeRow). covers (slot_base r.slot) ((r.bytes + 7) / 8 * 8) p) (sym is)
+      ∙ ap (λ a. covers a (size_in cs o.shape) p) (sym at)
 
   module _ (s : Lists) (sp : IsSpace s) (packed : PacksAt s.in_use (young_sizes g) (young_homes homes g)) where
     -- YOUNG ONES

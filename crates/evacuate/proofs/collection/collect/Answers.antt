@@ -1,10 +1,7 @@
 use Rattle.std.proofs.Common.{arith}
 use Rattle.std.proofs.lemmas.Result.{on_ok_weaker}
 use Rattle.heap_graph.specs.Collection.{collect}
-use Rattle.heap_graph.specs.Graph.{Graph}
-use Rattle.address_table.specs.Computed.{Homes}
 use Rattle.object_view.proofs.Outcomes.{on_ok_both}
-use Rattle.object_collection.specs.Collects.{state_of, HeapState}
 use Rattle.evacuate.specs.Stands.{raws_of}
 use Rattle.evacuate.proofs.Can.{can}
 use Rattle.evacuate.proofs.Counted.{counted, freed}
