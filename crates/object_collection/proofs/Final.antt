@@ -21,7 +21,7 @@ use Rattle.live_objects.specs.Live.{addresses}
 use Rattle.weak_refs.specs.Weak.{ClearsSlots}
 use Rattle.object_moves.specs.Copies.{moved, KeepsOutside}
 use Rattle.object_moves.specs.Turns.{gone_to}
-use Rattle.object_collection.specs.Collects.{may_change, CanCollect, HeapState, IsCollected, LeavesPages}
+use Rattle.object_collection.specs.Collects.{may_change, CanCollect, HeapState, LeavesPages}
 use Rattle.object_collection.specs.Phases.{goes_by, is_turned, stays_by, HaveMoved, IsPlan, Listed, LosesPages}
 use Rattle.object_collection.proofs.Marked.{filter-fewer}
 use Rattle.object_collection.proofs.Running.{cleared, gone, only-three}
@@ -65,9 +65,6 @@ module _ (h : HeapState) (m : Memory) (t : ℕ) (raws : Raws) (plan : Listed) (c
 
     pub waiting-fewer : length (filter waits rows) ≤ length (filter waits h.rows)
     waiting-fewer = subst (λ (rs : List LargeRow). length (filter waits rs) ≤ length (filter waits h.rows)) (sym run.rows_are) (filter-fewer waits (stays_by plan.large) h.rows)
-
-    pub collected : IsCollected h m4 t raws s4 rows roots
-    collected = ?
 
     pub leaves : LeavesPages h m m4 t
     leaves = ?

@@ -12,3 +12,5 @@ pub mod AllWeak
 pub mod Running
 pub mod Sizes
 pub mod Final
+pub mod CarryLost
+pub mod CarryCollected
