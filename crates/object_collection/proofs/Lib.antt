@@ -13,4 +13,5 @@ pub mod Running
 pub mod Sizes
 pub mod Final
 pub mod CarryLost
+pub mod CarryLeft
 pub mod CarryCollected
