@@ -1,10 +1,9 @@
 -- The weak references of the live objects and of the slots, put together.
-use Rattle.std.proofs.Common.{◌≡◌, ◌∙◌, ℕ, ◌<◌, ◌≤◌, true, List, [], get_or, length, sym, ap, subst, inl, inr, arith}
+use Rattle.std.proofs.Common.{◌≡◌, ◌∙◌, ℕ, ◌<◌, ◌≤◌, List, [], length, sym, ap, subst, inl, inr, arith}
 use Rattle.std.specs.Prelude.{◌⊎◌}
 use Rattle.std.specs.List.{Contains}
 use Rattle.std.proofs.lemmas.Bool.{false≢true}
 use Rattle.std.proofs.lemmas.List.{get_or_default, get_or-map, length-map}
-use Rattle.std.proofs.lemmas.List.Elements.{Contains-get_or}
 use Rattle.std.proofs.lemmas.Map.Keys.{apart_from_distinct}
 use Rattle.std.proofs.lemmas.Bool.{eqb-false}
 use Rattle.class_layout.specs.ClassList.{Class}
@@ -13,18 +12,17 @@ use Rattle.bit_set.specs.Bits.{Bits}
 use Rattle.cow_pages.specs.Memory.{Memory}
 use Rattle.cow_pages.specs.View.{view_of}
 use Rattle.raw_objects.specs.Raws.{HoldsRaws, Raws}
-use Rattle.raw_objects.specs.References.{in_regions}
 use Rattle.live_objects.specs.Live.{addresses}
 use Rattle.live_objects.specs.Reach.{is_mortal}
 use Rattle.live_objects.proofs.MarkLemmas.{mortal-cases}
 use Rattle.live_objects.proofs.OrderLemmas.{regions-span}
-use Rattle.live_objects.proofs.YoungLemmas.{map-from, map-in}
+use Rattle.live_objects.proofs.YoungLemmas.{map-from}
 use Rattle.object_moves.specs.Copies.{at_of}
 use Rattle.object_collection.specs.Collects.{HeapState, IsReached, LeadsOut}
 use Rattle.object_collection.specs.Listed.{AreSlotsOf, AreWeak, IsWeakOf, IsWeakSlot, KnowsLive}
 use Rattle.object_collection.specs.Weaks.{Adds, AreReadable, IsWeakAmong, IsWeakIn}
 use Rattle.object_collection.proofs.Growing.{adds-both, none-twice}
-use Rattle.object_collection.proofs.Room.{live-once, reached-has, reached-mortal}
+use Rattle.object_collection.proofs.Room.{index-at, live-once, live-reached, reached-has, reached-mortal}
 use Rattle.object_collection.proofs.WeakLemmas.{weak-apart}
 
 -- ADDRESSES BY INDEX
@@ -38,21 +36,15 @@ at-index ats a is =
     let c = it.1 in
     (c.0, c.1, ap (λ (x : Addr). x.0) (get_or_default ats c.0 none it.0 c.1 ∙ c.2) ∙ it.2)
 
-index-at : (ats : List Addr) (i : ℕ) → i < length ats → Contains (addresses ats) (at_of ats i)
-index-at ats i below = map-in (λ (x : Addr). x.0) ats (get_or ats i none) (Contains-get_or ats i none below)
-
 module _ (h : HeapState) (m : Memory) (t : ℕ) (raws : Raws) (young : List Addr) (large : Bits) (k : KnowsLive h m t raws young large) where
   holds : HoldsRaws h.classes (view_of m t) raws
   holds = k.can.held.holds
 
-  young-reached : (i : ℕ) → i < length young → (in_regions (at_of young i) ≡ true) × IsReached h raws (at_of young i)
-  young-reached i below = (k.young_are.only (at_of young i)).0 (index-at young i below)
-
   pub young-readable : AreReadable h.classes (view_of m t) raws young
   young-readable = record {
     holds = holds;
-    has = λ i below. reached-has h raws (at_of young i) (young-reached i below).1;
-    above = λ i below. (regions-span (at_of young i) (young-reached i below).0).low;
+    has = λ i below. reached-has h raws (at_of young i) (live-reached h m t raws young large k i below).1;
+    above = λ i below. (regions-span (at_of young i) (live-reached h m t raws young large k i below).0).low;
     once = λ i j low below. live-once h m t raws young large k i j low below;
   }
 
@@ -92,7 +84,7 @@ module _ (h : HeapState) (m : Memory) (t : ℕ) (raws : Raws) (young : List Addr
 
     objects-apart : (b : ℕ) → IsWeakAmong h.classes raws young (length young) b → IsWeakAmong h.classes raws ats (length ats) b → ⊥
     objects-apart b one other =
-        let first = young-reached one.index one.before in
+        let first = live-reached h m t raws young large k one.index one.before in
         let second = slot-reached other.index other.before in
         let high = (regions-span (at_of young one.index) first.0).high in
         weak-apart h.classes (view_of m t) raws (at_of young one.index) (at_of ats other.index) b holds (reached-has h raws _ first.1) (reached-has h raws _ second.1) (λ same. omega (arith, same, high, second.0)) one.is other.is
@@ -109,7 +101,7 @@ module _ (h : HeapState) (m : Memory) (t : ℕ) (raws : Raws) (young : List Addr
         → AreWeak h raws w3
     all-weak w0 w1 w2 w3 empty first second third =
         let objects : Adds (IsWeakOf h raws) w0 w2 = adds-both (IsWeakAmong h.classes raws young (length young)) (IsWeakAmong h.classes raws ats (length ats)) (IsWeakOf h raws) w0 w1 w2 weak-split
-        (λ b it. weak-of (at_of young it.index) b (young-reached it.index it.before).1 it.is)
+        (λ b it. weak-of (at_of young it.index) b (live-reached h m t raws young large k it.index it.before).1 it.is)
         (λ b it. weak-of (at_of ats it.index) b (slot-reached it.index it.before).1 it.is)
         objects-apart first second in
         let all : Adds (λ b. IsWeakOf h raws b ⊎ IsWeakSlot h.slots b) w0 w3 =

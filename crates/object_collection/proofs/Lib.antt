@@ -11,7 +11,7 @@ pub mod WeakLemmas
 pub mod AllWeak
 pub mod Running
 pub mod Sizes
+pub mod Remaining
 pub mod Final
-pub mod CarryLost
-pub mod CarryLeft
-pub mod CarryCollected
+pub mod Reserved
+pub mod Planning

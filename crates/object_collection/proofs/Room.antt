@@ -5,26 +5,29 @@ use Rattle.std.proofs.lemmas.Bool.{and_parts, cases_eq, eqb-false, eqb-true}
 use Rattle.std.proofs.lemmas.List.{get_or-map, length-map}
 use Rattle.std.proofs.lemmas.List.Elements.{All-cons, All-head, All-map, All-nil, All-tail, Contains-get_or}
 use Rattle.std.proofs.lemmas.Simd.{map-map}
-use Rattle.model_numbers.specs.Numbers.{region_bytes}
+use Rattle.model_numbers.specs.Numbers.{region_bytes, region_count}
 use Rattle.class_layout.specs.ClassList.{Class}
 use Rattle.page_tables.specs.declared.address.Addr.{Addr}
 use Rattle.bit_set.specs.Bits.{Bits}
 use Rattle.cow_pages.specs.Memory.{Memory}
+use Rattle.cow_pages.specs.View.{view_of}
 use Rattle.heap_graph.specs.Packing.{after, end_from, place, place_if, places_from}
 use Rattle.heap_graph.specs.Sizes.{parts_for}
 use Rattle.object_view.proofs.Laid.{size-bounds}
 use Rattle.raw_objects.specs.Raws.{raw_size, Raws}
+use Rattle.raw_objects.specs.References.{in_regions}
 use Rattle.region_lists.specs.Rows.{Row}
 use Rattle.region_space.specs.Packed.{address_in}
 use Rattle.region_space.specs.Space.{lists_of, IsSpace}
 use Rattle.region_space.proofs.WalkLemmas.{in_use-apart}
-use Rattle.large_objects.specs.declared.rows.LargeRow.{LargeRow}
 use Rattle.live_objects.specs.Live.{addresses, AreRising}
 use Rattle.live_objects.specs.Marks.{place_of}
-use Rattle.live_objects.specs.Reach.{is_mortal, is_node, Path}
-use Rattle.live_objects.proofs.OrderLemmas.{address-is, regions, regions-within}
+use Rattle.live_objects.specs.Reach.{is_mortal, starts_of}
+use Rattle.live_objects.proofs.OrderLemmas.{address-is, regions, regions-few, regions-within}
+use Rattle.live_objects.proofs.ReachLemmas.{reached-node}
 use Rattle.live_objects.proofs.YoungLemmas.{cons-cases, distinct-index, in-first, in-rest, map-in, rising-above}
-use Rattle.object_moves.specs.Copies.{at_of, sizes_at}
+use Rattle.object_moves.specs.Copies.{at_of, sizes_at, IsYoungAt}
+use Rattle.object_moves.proofs.One.{row-of}
 use Rattle.object_collection.specs.Collects.{AreYoung, HeapState, IsReached}
 use Rattle.object_collection.specs.Listed.{KnowsLive}
 
@@ -57,13 +60,13 @@ rising-lower : (low other : ℕ) (ps : List ℕ) → other ≤ low → AreRising
 rising-lower low other [] le rising = tt
 rising-lower low other (p ∷ ps) le rising = (omega (arith, le, rising.0), rising.1)
 
-places-rising : (p : ℕ) (sizes : List ℕ) → All (λ s. 0 < s) sizes → AreRising p (places_from p sizes)
+pub places-rising : (p : ℕ) (sizes : List ℕ) → All (λ s. 0 < s) sizes → AreRising p (places_from p sizes)
 places-rising p [] some = tt
 places-rising p (s ∷ ss) some =
     let first = All-head (λ s. 0 < s) s ss some in
     (above p s, rising-lower (after p s) (place p s + 1) (places_from (after p s) ss) (omega (arith, first)) (places-rising (after p s) ss (All-tail (λ s. 0 < s) s ss some)))
 
-places-within : (p bound : ℕ) (sizes : List ℕ) → All (λ s. 0 < s) sizes → end_from p sizes ≤ bound → All (λ q. q < bound) (places_from p sizes)
+pub places-within : (p bound : ℕ) (sizes : List ℕ) → All (λ s. 0 < s) sizes → end_from p sizes ≤ bound → All (λ q. q < bound) (places_from p sizes)
 places-within p bound [] some le = All-nil (λ q. q < bound)
 places-within p bound (s ∷ ss) some le =
     let first = All-head (λ s. 0 < s) s ss some in
@@ -110,15 +113,11 @@ size-some : (cs : List Class) (raws : Raws) (a : ℕ) → 0 < raw_size cs raws a
 size-some cs raws a = let b = size-bounds cs (raws.raw a).shape in omega (arith, b.0, b.1, b.2)
 
 -- what is reached is an object that isn't immune
-pub reached-node : (cs : List Class) (rows : List LargeRow) (raws : Raws) (starts : List ℕ) (b : ℕ) (before : List ℕ) → Path cs rows raws starts b before → is_node rows raws b ≡ true
-reached-node cs rows raws starts b [] path = path.1
-reached-node cs rows raws starts b (a ∷ before) path = path.0.node
-
 pub reached-has : (h : HeapState) (raws : Raws) (a : ℕ) → IsReached h raws a → raws.has a ≡ true
-reached-has h raws a is = (and_parts (raws.has a) (is_mortal h.rows a) (reached-node h.classes h.rows raws _ a is.0 is.1)).0
+reached-has h raws a is = (and_parts (raws.has a) (is_mortal h.rows a) (reached-node h.classes h.rows raws (starts_of h.roots h.slots) a is)).0
 
 pub reached-mortal : (h : HeapState) (raws : Raws) (a : ℕ) → IsReached h raws a → is_mortal h.rows a ≡ true
-reached-mortal h raws a is = (and_parts (raws.has a) (is_mortal h.rows a) (reached-node h.classes h.rows raws _ a is.0 is.1)).1
+reached-mortal h raws a is = (and_parts (raws.has a) (is_mortal h.rows a) (reached-node h.classes h.rows raws (starts_of h.roots h.slots) a is)).1
 
 back-map : (f g : ℕ → ℕ) (bound : ℕ) (ps : List ℕ) → ((p : ℕ) → p < bound → g (f p) ≡ p) → All (λ p. p < bound) ps → map g (map f ps) ≡ ps
 back-map f g bound [] back all = refl
@@ -134,16 +133,19 @@ rank-back h space p below =
     (address-is (regions h.regions.in_use) p (regions-within (lists_of h.regions) space) (λ i under. distinct-index (regions h.regions.in_use) i (in_use-apart (lists_of h.regions) space) under)
     (omega (arith, below, length-map h.regions.in_use (λ (row : Row). row.region)))).back
 
-at-place : (young : List Addr) (in_use : List Row) (ps : List ℕ) → addresses young ≡ map (address_in in_use) ps → (i : ℕ) → i < length young → i < length ps → at_of young i ≡ address_in in_use (get_or ps i 0)
+pub at-place : (young : List Addr) (in_use : List Row) (ps : List ℕ) → addresses young ≡ map (address_in in_use) ps → (i : ℕ) → i < length young → i < length ps → at_of young i ≡ address_in in_use (get_or ps i 0)
 at-place young in_use ps stand i below under =
     let none : Addr = record { 0 = 0 } in
     sym (get_or-map (λ (a : Addr). a.0) young i none 0 below) ∙ ap (λ ns. get_or ns i 0) stand ∙ get_or-map (address_in in_use) ps i 0 0 under
 
-rising-apart : (low : ℕ) (ps : List ℕ) (i j : ℕ) → AreRising low ps → i < j → j < length ps → get_or ps i 0 < get_or ps j 0
+pub rising-apart : (low : ℕ) (ps : List ℕ) (i j : ℕ) → AreRising low ps → i < j → j < length ps → get_or ps i 0 < get_or ps j 0
 rising-apart low [] i j rising before below = absurd (omega (arith, below))
 rising-apart low (p ∷ ps) i zero rising before below = absurd (omega (arith, before))
 rising-apart low (p ∷ ps) zero (suc j) rising before below = let it = rising-above (p + 1) ps (get_or ps j 0) rising.1 (Contains-get_or ps j 0 (omega (arith, below))) in omega (arith, it)
 rising-apart low (p ∷ ps) (suc i) (suc j) rising before below = rising-apart (p + 1) ps i j rising.1 (omega (arith, before)) (omega (arith, below))
+
+pub index-at : (ats : List Addr) (i : ℕ) → i < length ats → Contains (addresses ats) (at_of ats i)
+index-at ats i below = let none : Addr = record { 0 = 0 } in map-in (λ (x : Addr). x.0) ats (get_or ats i none) (Contains-get_or ats i none below)
 
 module _ (h : HeapState) (m : Memory) (t : ℕ) (raws : Raws) (young : List Addr) (large : Bits) (k : KnowsLive h m t raws young large) where
   abbrev size : ℕ → ℕ
@@ -197,3 +199,17 @@ module _ (h : HeapState) (m : Memory) (t : ℕ) (raws : Raws) (young : List Addr
       let p : get_or ps i 0 ≡ get_or ps j 0 =
       sym (back (get_or ps i 0) (k.young_are.within i 0 before)) ∙ ap (rank_in in_use) (sym here ∙ same ∙ there) ∙ back (get_or ps j 0) (k.young_are.within j 0 under) in
       omega (arith, p, rising-apart 0 ps i j k.young_are.rising low under)
+
+  pub live-reached : (i : ℕ) → i < length young → (in_regions (at_of young i) ≡ true) × IsReached h raws (at_of young i)
+  live-reached i below = (k.young_are.only (at_of young i)).0 (index-at young i below)
+
+  -- what the count of their pages stands on
+  pub live-young : (i : ℕ) → i < length young → IsYoungAt h.classes (view_of m t) raws (at_of young i)
+  live-young i below =
+      let it = live-reached i below in
+      let has = reached-has h raws (at_of young i) it.1 in
+      let row = row-of (lists_of h.regions) (at_of young i) (size (at_of young i)) k.can.held.space (k.can.held.rows (at_of young i) has it.0) in
+      record { holds = k.can.held.holds; has = has; inside = it.0; fits = omega (arith, row.from, row.to, row.holds.most) }
+
+  pub live-regions : parts_for region_bytes (end_from 0 (sizes_at h.classes raws young)) ≤ region_count
+  live-regions = omega (arith, room, regions-few (lists_of h.regions) k.can.held.space)

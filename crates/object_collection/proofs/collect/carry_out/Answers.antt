@@ -10,8 +10,7 @@ use Rattle.object_collection.proofs.Running.{same-listed}
 use Rattle.object_collection.proofs.Nulled.{weak-alone, weak-slots}
 use Rattle.object_collection.proofs.Running.{alone3, can-move, can-turn, cleared, large-high, large-rows, large-within, live3, pages3, region_alone3, region_pages3, slots-within, young-high, young-within}
 use Rattle.object_collection.proofs.Sizes.{objects-few}
-use Rattle.object_collection.proofs.CarryCollected.{collected}
-use Rattle.object_collection.proofs.Final.{copied, leaves, objects-fewer, only-table, rose, waiting-fewer, HasRun}
+use Rattle.object_collection.proofs.Final.{collected, copied, leaves, objects-fewer, only-table, rose, waiting-fewer, HasRun}
 use Rattle.object_collection.proofs.collect.carry_out.Goals as goal
 
 pub overflow_add-before : goal.overflow_add-before

@@ -38,15 +38,25 @@ use Rattle.live_objects.specs.Live.{addresses}
 use Rattle.live_objects.specs.Reach.{in_large, is_mortal, waits_in}
 use Rattle.live_objects.proofs.YoungLemmas.{map-in}
 use Rattle.object_moves.specs.Copies.{at_of, moved, sizes_at, HoldsRegions}
-use Rattle.object_collection.specs.Collects.{CanCollect, HeapState, IsReached}
-use Rattle.object_collection.specs.Phases.{goes_by, is_lost, stays_by, HaveMoved, IsPlan, Listed, LosesPages}
+use Rattle.object_collection.specs.Collects.{CanCollect, HeapState, IsKept}
+use Rattle.object_collection.specs.Phases.{goes_by, stays_by, HaveMoved, IsPlan, Listed, LosesPages}
 use Rattle.object_collection.proofs.Dropping.{dead-window, mapped-alone, windows-apart}
 use Rattle.object_collection.proofs.Facts.{all-at, any-at, any-of, filter-from, row-in}
 use Rattle.object_collection.proofs.Marked.{row-found-at}
 use Rattle.object_collection.proofs.Nulled.{null}
 use Rattle.object_collection.proofs.PageLemmas.{size-at}
 use Rattle.object_collection.proofs.Running.{filled-window, get-in}
-use Rattle.object_collection.proofs.CarryLost.{both-so, left-reached, not-so, off-of, two-ways}
+
+not-so : (b : Bool) → (b ≡ true → ⊥) → b ≡ false
+not-so true fails = absurd (fails refl)
+not-so false fails = refl
+
+both-so : (b : Bool) → b ≡ true → b ≡ false → ⊥
+both-so b e f = true≢false (sym e ∙ f)
+
+off-of : (b : Bool) → not b ≡ true → b ≡ false
+off-of true e = sym e
+off-of false e = refl
 
 -- a page of a row lies in the row's region
 page-region : (row : Row) (p : ℕ) → IsFilled row → region_page p row ≡ true → (p - 262144) / 64 ≡ row.region
@@ -80,28 +90,31 @@ module _ (h : HeapState) (m : Memory) (t : ℕ) (raws : Raws) (plan : Listed) (c
   abbrev left : Raws
   left = among (turned_where now test) is_left
 
-  -- what is left is a copy, or stands outside the regions and doesn't go
+  -- what is left is a copy, or a kept object outside the regions
   abbrev pub Stays : ℕ → Type 0
-  Stays b = ((i : ℕ) × (i < length young) × (at_of tos i ≡ b)) ⊎ ((raws.has b ≡ true) × (in_regions b ≡ false) × (is_lost h.rows plan.stays b ≡ false))
+  Stays b = ((i : ℕ) × (i < length young) × (at_of tos i ≡ b)) ⊎ (IsKept h raws b × (in_regions b ≡ false))
 
   -- THE ROWS THAT GO
 
-  -- a row that goes isn't promoted, and its object isn't reached
+  -- a row that goes isn't promoted
   goes-waits : (row : LargeRow) → goes_by plan.large row ≡ true → waits row ≡ true
   goes-waits row is = ap not (not-so row.promoted (λ promoted. both-so (stays_by plan.large row) (or_left row.promoted (list_any (nat_eq (slot_base row.slot)) (addresses plan.large)) promoted) (off-of (stays_by plan.large row) is)))
 
-  goes-lost : (row : LargeRow) → Contains h.rows row → goes_by plan.large row ≡ true → in_regions (slot_base row.slot) ≡ false → is_lost h.rows plan.stays (slot_base row.slot) ≡ false → ⊥
+  -- and its object isn't kept
+  goes-lost : (row : LargeRow) → Contains h.rows row → goes_by plan.large row ≡ true → in_regions (slot_base row.slot) ≡ false → IsKept h raws (slot_base row.slot) → ⊥
   goes-lost row c is out kept =
       let s : ℕ = slot_base row.slot in
-      let mortal : is_mortal h.rows s ≡ true = or_right (in_regions s) (waits_in (row_at h.rows s)) (ap waits_in (row-found-at h.rows row can.large.rows c) ∙ goes-waits row is) in
-      let r = left-reached h m t raws plan can ok s out mortal kept in
-      let any : list_any (nat_eq s) (addresses plan.large) ≡ true = any-of (nat_eq s) (addresses plan.large) s ((ok.large.only s).1 (out, r)) (eq-eqb s s refl) in
-      both-so (stays_by plan.large row) (or_right row.promoted (list_any (nat_eq s) (addresses plan.large)) any) (off-of (stays_by plan.large row) is)
+      elim kept.stays [
+        | inl immune ↦ both-so (is_mortal h.rows s) (or_right (in_regions s) (waits_in (row_at h.rows s)) (ap waits_in (row-found-at h.rows row can.large.rows c) ∙ goes-waits row is)) immune
+        | inr r ↦
+            let any : list_any (nat_eq s) (addresses plan.large) ≡ true = any-of (nat_eq s) (addresses plan.large) s ((ok.large.only s).1 (out, r)) (eq-eqb s s refl) in
+            both-so (stays_by plan.large row) (or_right row.promoted (list_any (nat_eq s) (addresses plan.large)) any) (off-of (stays_by plan.large row) is)
+      ]
 
-  -- an object that doesn't go has no byte in the pages of a row that goes
-  beside-row : (b k : ℕ) (row : LargeRow) → raws.has b ≡ true → in_regions b ≡ false → is_lost h.rows plan.stays b ≡ false → k < raw_size cs raws b
+  -- a kept object has no byte in the pages of a row that goes
+  beside-row : (b k : ℕ) (row : LargeRow) → IsKept h raws b → in_regions b ≡ false → k < raw_size cs raws b
       → Contains h.rows row → goes_by plan.large row ≡ true → holds_page (page_of (b + k)) row ≡ true → is_in Large (page_of (b + k)) ≡ true → ⊥
-  beside-row b k row has out kept less c goes holds window =
+  beside-row b k row kept out less c goes holds window =
       let s : ℕ = slot_base row.slot in
       let q : ℕ = page_of (b + k) in
       let its = can.large.has row c in
@@ -111,13 +124,12 @@ module _ (h : HeapState) (m : Memory) (t : ℕ) (raws : Raws) (plan : Listed) (c
       let high : q < page_of s + pages_up_to row.bytes = ltb-true q (page_of s + pages_up_to row.bytes) parts.1 in
       let within = and_parts (nat_le 524288 q) (nat_lt q 655360) window in
       elim (cases_order b s) [
-        | inl same ↦ goes-lost row c goes (ap in_regions (sym same) ∙ out) (ap (is_lost h.rows plan.stays) (sym same) ∙ kept)
+        | inl same ↦ goes-lost row c goes (ap in_regions (sym same) ∙ out) (subst (λ (n : ℕ). IsKept h raws n) same kept)
         | inr o ↦ elim o [
-          | inl before ↦ let apart = can.held.holds.apart b s has its.0 before in omega (arith, apart, less, low)
-          | inr behind ↦ elim (two-ways (in_large b)) [
-            | inr off ↦ both-so (in_large b) (inside 524288 655360 (page_of b) (omega (arith, behind)) (omega (arith, ltb-true q 655360 within.1))) off
-            | inl large ↦ another (row_at h.rows b) refl (can.large.only b has large) behind most high
-          ]
+          | inl before ↦ let apart = can.held.holds.apart b s kept.has its.0 before in omega (arith, apart, less, low)
+          | inr behind ↦
+              let large : in_large b ≡ true = inside 524288 655360 (page_of b) (omega (arith, behind)) (omega (arith, ltb-true q 655360 within.1)) in
+              another (row_at h.rows b) refl (can.large.only b kept.has large) behind most high
         ]
       ]
     where
@@ -159,35 +171,34 @@ module _ (h : HeapState) (m : Memory) (t : ℕ) (raws : Raws) (plan : Listed) (c
     unmoved : (b : ℕ) → raws.has b ≡ true → in_regions b ≡ false → now.raw b ≡ cleared.raw b
     unmoved b has out = moves.moves.same b has (λ i below same. both-so (in_regions b) (subst (λ (n : ℕ). in_regions n ≡ true) same ((ok.young.only (at_of young i)).0 (get-in young i below)).0) out)
 
-    outside-off : (b k : ℕ) → raws.has b ≡ true → in_regions b ≡ false → is_lost h.rows plan.stays b ≡ false → k < raw_size cs now b → gone (page_of (b + k)) ≡ true → ⊥
-    outside-off b k has out kept less is =
+    outside-off : (b k : ℕ) → IsKept h raws b → in_regions b ≡ false → k < raw_size cs now b → gone (page_of (b + k)) ≡ true → ⊥
+    outside-off b k kept out less is =
         let p : ℕ = page_of (b + k) in
         elim (or_cases (list_any (region_page p) s2.from) (list_any (holds_page p) (filter (goes_by plan.large) h.rows)) is) [
           | inl from ↦
               let parts = and_parts (nat_le 262144 p) (nat_lt p 327680) (from-window (lists_of s2) p moves.held.space from) in
               let low = leb-true 262144 p parts.0 in
               let high = ltb-true p 327680 parts.1 in
-              elim (moves.held.others b (moves.moves.has b has) out) [ inl before ↦ omega (arith, before, less, low) | inr behind ↦ omega (arith, behind, high) ]
+              elim (moves.held.others b (moves.moves.has b kept.has) out) [ inl before ↦ omega (arith, before, less, low) | inr behind ↦ omega (arith, behind, high) ]
           | inr large ↦
               let it = any-at (holds_page p) (filter (goes_by plan.large) h.rows) large in
               let row = filter-from (goes_by plan.large) h.rows it.0 it.1 in
-              let size : raw_size cs now b ≡ raw_size cs raws b = ap (λ (r : Raw). size_in cs r.shape) (unmoved b has out) in
-              beside-row b k it.0 has out kept (subst (λ (n : ℕ). k < n) size less) row.0 row.1 it.2 (dead-window h.rows (goes_by plan.large) p can.large.rows large)
+              let size : raw_size cs now b ≡ raw_size cs raws b = ap (λ (r : Raw). size_in cs r.shape) (unmoved b kept.has out) in
+              beside-row b k it.0 kept out (subst (λ (n : ℕ). k < n) size less) row.0 row.1 it.2 (dead-window h.rows (goes_by plan.large) p can.large.rows large)
         ]
 
-    module _ (cases : (b : ℕ) → now.has b ≡ true → is_left b ≡ true → Stays b) where
+    module _ (cases : (b : ℕ) → left.has b ≡ true → Stays b) where
       left-off : (p : ℕ) → gone p ≡ true → (b k : ℕ) → left.has b ≡ true → k < raw_size cs left b → page_of (b + k) ≡ p → ⊥
       left-off p is b k has less at =
-          let parts = and_parts (now.has b) (is_left b) has in
           let there : gone (page_of (b + k)) ≡ true = ap gone at ∙ is in
-          elim (cases b parts.0 parts.1) [
+          elim (cases b has) [
             | inl it ↦ copy-off it.0 k it.1 (subst (λ (n : ℕ). k < raw_size cs now n) (sym it.2) less) (subst (λ (n : ℕ). gone (page_of (n + k)) ≡ true) (sym it.2) there)
-            | inr it ↦ outside-off b k it.0 it.1 it.2 less there
+            | inr it ↦ outside-off b k it.0 it.1 less there
           ]
 
-      pub left-held : IsTrue (is_live m3 t) → HoldsRaws cs (view_of m3 t) (turned_where now test) → LosesPages m3 m4 t gone → OnlyTable m2 m4 t → IsSound m4 → IsSpace (lists_of s4) → HasRegionPages m4 t (filled (lists_of s4))
+      pub held-left : IsTrue (is_live m3 t) → HoldsRaws cs (view_of m3 t) (turned_where now test) → LosesPages m3 m4 t gone → OnlyTable m2 m4 t → IsSound m4 → IsSpace (lists_of s4) → HasRegionPages m4 t (filled (lists_of s4))
           → s4.in_use ≡ s2.in_use → s4.from ≡ [] → HoldsRegions cs m4 t (lists_of s4) left
-      left-held live turned loses only sound space pages in_use from = record {
+      held-left live turned loses only sound space pages in_use from = record {
         live = loses.live t ∙ live;
         sound = sound;
         space = space;
@@ -213,7 +224,7 @@ module _ (h : HeapState) (m : Memory) (t : ℕ) (raws : Raws) (plan : Listed) (c
                 some = object.some;
                 there = elim (or_cases (list_any (lies_in b size) s2.in_use) (list_any (lies_in b size) s2.from) (sym (list_any-append (lies_in b size) s2.in_use s2.from) ∙ object.there)) [
                   | inl here ↦ here
-                  | inr old ↦ absurd (elim (cases b parts.0 parts.1) [
+                  | inr old ↦ absurd (elim (cases b has) [
                     | inr it ↦ both-so (in_regions b) young' it.1
                     | inl it ↦
                         let mine = copy-in_use it.0 0 it.1 (subst (λ (n : ℕ). 0 < raw_size cs now n) (sym it.2) object.some) in
