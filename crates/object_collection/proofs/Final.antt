@@ -1,12 +1,12 @@
 -- What holds after a collection.
-use Rattle.std.proofs.Common.{◌≡◌, ◌≢◌, ◌∙◌, ◌⊎◌, ◌||◌, ◌&&◌, ℕ, ◌+◌, ◌*◌, ◌<◌, ◌≤◌, inl, inr, Bool, true, false, cond, List, [], ◌∷◌, ◌++◌, Option, Some, None, pos, filter, get_or, length, map, nat_eq, refl, sym, ap, subst, arith}
+use Rattle.std.proofs.Common.{◌≡◌, ◌≢◌, ◌∙◌, ◌⊎◌, ◌||◌, ◌&&◌, ℕ, ◌+◌, ◌*◌, ◌/◌, ◌<◌, ◌≤◌, inl, inr, Bool, true, false, cond, List, [], ◌∷◌, ◌++◌, All, Option, Some, None, pos, ◌-◌, filter, get_or, length, map, nat_eq, refl, sym, ap, subst, arith}
 use Rattle.std.specs.Prelude.{◌↔◌, ◌^◌, if◌then◌else◌, ℤ, IsTrue, count_by, is_some, nat_le, nat_lt, not}
 use Rattle.std.specs.List.{list_any, AllByRecursion, Contains}
 use Rattle.std.specs.List.{IsDistinct}
 use Rattle.std.proofs.lemmas.Cmp.{nat_eq_equiv}
 use Rattle.std.proofs.lemmas.List.Sums.{length-filter}
 use Rattle.std.proofs.lemmas.Map.Made.{is_member-Decides, length-le_from_is_member}
-use borrow.Author.Tests.{ltb-true}
+use borrow.Author.Tests.{leb-true, ltb-true}
 use Rattle.model_numbers.specs.Numbers.{large_slot_count, region_base}
 use Rattle.live_objects.specs.Reach.{in_large, is_mortal, is_node, is_strong, starts_of, waits_in, IsFound}
 use Rattle.live_objects.proofs.YoungLemmas.{in-first, in-rest, map-from, map-in}
@@ -18,22 +18,22 @@ use Rattle.live_objects.proofs.ReachLemmas.{reached-held, reached-start}
 use Rattle.std.proofs.lemmas.List.{append-nil, get_or-map, get_or_default, length-map}
 use Rattle.std.proofs.lemmas.List.Folds.{list_any-append}
 use Rattle.page_tables.specs.declared.address.Window.TheVariants.{Image, Regions, Zygote}
-use Rattle.page_tables.specs.Address.{is_immune, is_in, page_of}
+use Rattle.page_tables.specs.Address.{is_immune, is_in, offset_of, page_of}
 use Rattle.object_view.specs.declared.names.Slot.{Slot}
 use Rattle.object_view.proofs.Rises.{reads-rise, rose-more}
 use Rattle.raw_objects.proofs.Kept.{one-table}
 use Rattle.region_lists.specs.Rows.{Row}
-use Rattle.region_space.proofs.DropLemmas.{from-window}
+use Rattle.region_space.proofs.DropLemmas.{from-window, held-run}
 use Rattle.large_objects.proofs.PageLemmas.{one-side}
 use Rattle.page_tables.specs.declared.address.Addr.{Addr}
 use Rattle.cow_pages.specs.Memory.{flag_of, is_mapped, page_at, HasOneSharer, IsSound, Memory, Page}
 use Rattle.cow_pages.specs.Only.{OnlyTable}
-use Rattle.cow_pages.specs.View.{u32_at, view_of}
+use Rattle.cow_pages.specs.View.{byte_at, byte_in, u32_at, view_of}
 use Rattle.cow_pages.proofs.OnlyLemmas.{only-trans}
 use Rattle.object_view.specs.Changes.{reads_after_all}
 use Rattle.object_view.specs.Seen.{RoseBy}
 use Rattle.raw_objects.specs.Keeps.{Keeps}
-use Rattle.raw_objects.specs.Raws.{among, HoldsRaws, Raw, Raws}
+use Rattle.raw_objects.specs.Raws.{among, raw_size, HoldsRaws, IsOffPage, Raw, Raws}
 use Rattle.raw_objects.specs.References.{goes, in_regions, now_at, turned, turned_where}
 use Rattle.raw_objects.specs.References.{address_in as address_of}
 use Rattle.class_layout.specs.declared.kind.Kind.TheVariants.{Ref}
@@ -44,14 +44,22 @@ use Rattle.graph_pages.specs.Collected.{turned_by}
 use Rattle.heap_graph.specs.Places.{places_of}
 use Rattle.heap_graph.proofs.Places.{bytes-low, one-place}
 use Rattle.object_view.proofs.Laid.{place-within}
-use Rattle.large_objects.proofs.TableLemmas.{row-spot}
-use Rattle.std.proofs.lemmas.Bool.{cases_order, ne_eqb}
-use Rattle.region_space.specs.Space.{filled, lists_of, IsSpace, Space}
+use Rattle.large_objects.proofs.TableLemmas.{row-found, row-spot}
+use Rattle.large_objects.proofs.LawLemmas.{row-covers}
+use Rattle.std.proofs.lemmas.Bool.{cases_order, le-leb, ne_eqb}
+use Rattle.region_space.specs.Space.{filled, lists_of, IsFilled, IsSpace, Space}
+use Rattle.region_space.specs.Pages.{lies_in, IsObjectIn}
+use Rattle.region_space.proofs.LieLemmas.{any-holds}
+use Rattle.region_lists.specs.Rows.{Lists}
+use Rattle.region_lists.proofs.MoveLemmas.{apart-parts, distinct-left}
+use Rattle.raw_objects.proofs.Paging.{raws-among, raws-gone}
+use Rattle.heap_graph.specs.Sizes.{size_in}
+use Rattle.object_collection.proofs.PageLemmas.{size-at}
 use Rattle.region_space.specs.Space.{HasPages as HasRegionPages}
 use Rattle.region_space.specs.Space.{holds_page as region_page}
 use Rattle.large_objects.specs.declared.rows.LargeRow.{LargeRow}
 use Rattle.large_objects.specs.Pages.{holds_page, HasPages}
-use Rattle.large_objects.specs.Rows.{row_at, slot_base, waits, AreRows}
+use Rattle.large_objects.specs.Rows.{row_at, slot_base, waits, AreRows, IsBytes}
 use Rattle.live_objects.specs.Live.{addresses}
 use Rattle.weak_refs.specs.Weak.{is_dead, is_page_of, ClearsSlots}
 use Rattle.object_moves.specs.Copies.{at_of, moved, sizes_at, HoldsRegions, KeepsOutside, PacksAt}
@@ -64,8 +72,8 @@ use Rattle.object_view.proofs.Stores.{loaded}
 use Rattle.object_view.proofs.Laid.{ref-kind}
 use Rattle.object_collection.specs.Collects.{may_change, AreLeft, AreRowsLeft, CanCollect, HeapState, IsCollected, IsKept, IsReached, Leads, LeavesPages}
 use Rattle.object_collection.specs.Phases.{goes_by, is_lost, is_turned, leads_to, slot_in, stays_by, stays_in, HaveMoved, IsPlan, Listed, LosesPages, Turning}
-use Rattle.object_collection.proofs.Marked.{filter-fewer, gone-waits}
-use Rattle.object_collection.proofs.Dropping.{dead-window, mapped-alone}
+use Rattle.object_collection.proofs.Marked.{filter-fewer, gone-waits, row-found-at}
+use Rattle.object_collection.proofs.Dropping.{dead-window, mapped-alone, windows-apart}
 use Rattle.object_collection.proofs.Facts.{all-at, any-at, any-of, filter-from, filter-in, may-large, may-young, mortal-cases, reached-has, row-in, waiting-row, IsWaiting}
 use Rattle.object_collection.proofs.Nulled.{slot-in, weak-page, weak-reference}
 use Rattle.object_collection.proofs.Steps.{any-fewer}
@@ -135,13 +143,14 @@ slot-outside slot = no (in_regions (slot_base slot)) (λ is.
     let below = ltb-true (page_of (slot_base slot)) 327680 parts.1 in
     omega (arith, below))
 
--- a slot of a waiting object lies in the large window
+-- where a listed address stands
 index-of : (ats : List Addr) (a : ℕ) → Contains (addresses ats) a → (i : ℕ) × (i < length ats) × (at_of ats i ≡ a)
 index-of ats a c =
     let n = length-map ats (λ (x : Addr). x.0) in
     let below : c.0 < length ats = omega (arith, c.1, n) in
     (c.0, below, sym (get_or-map (λ (x : Addr). x.0) ats c.0 (record { 0 = 0 }) 0 below) ∙ get_or_default (addresses ats) c.0 0 a c.1 ∙ c.2)
 
+-- a slot of a waiting object lies in the large window
 row-large : (rows : List LargeRow) (a : ℕ) → AreRows rows → IsWaiting rows a → in_large a ≡ true
 row-large rows a are it =
     let within = all-at (λ (row : LargeRow). row.slot < large_slot_count) rows it.row are.within it.is_in in
@@ -187,6 +196,58 @@ module _ (h : HeapState) (m : Memory) (t : ℕ) (raws : Raws) (plan : Listed) (c
 
     pub waiting-fewer : length (filter waits rows) ≤ length (filter waits h.rows)
     waiting-fewer = subst (λ (rs : List LargeRow). length (filter waits rs) ≤ length (filter waits h.rows)) (sym run.rows_are) (filter-fewer waits (stays_by plan.large) h.rows)
+
+    abbrev kept : Keeps m m1 t (is_page_of (gone h m t raws plan can ok))
+    kept = kept1 h m t raws plan can ok m1 run.clears run.sound1
+
+    gone-may : (q : ℕ) → is_page_of (gone h m t raws plan can ok) q ≡ true → may_change h q ≡ true
+    gone-may q is =
+        let it = any-at (λ (at : ℕ). nat_eq (page_of at) q) (addresses plan.weak) (any-fewer (λ (at : ℕ). nat_eq (page_of at) q) (is_dead (stays_in plan.stays) (view_of m t)) (addresses plan.weak) is) in
+        ap (may_change h) (sym (eqb-true (page_of it.0) q it.2)) ∙ (weak-page h m t raws plan can ok it.0 it.1).1
+
+    goes-may : (q : ℕ) → list_any (holds_page q) (filter (goes_by plan.large) h.rows) ≡ true → may_change h q ≡ true
+    goes-may q is = may-large h m t raws can q (gone-waits plan.large q h.rows is)
+
+    from-regions : (q : ℕ) → list_any (region_page q) s2.from ≡ true → is_in Regions q ≡ true
+    from-regions q is = from-window (lists_of s2) q run.moves.held.space is
+
+    not-gone : (q : ℕ) → may_change h q ≡ false → (list_any (region_page q) s2.from || list_any (holds_page q) (filter (goes_by plan.large) h.rows)) ≡ false
+    not-gone q out = or_from (list_any (region_page q) s2.from) (list_any (holds_page q) (filter (goes_by plan.large) h.rows))
+        (no (list_any (region_page q) s2.from) (λ is. clash (may_change h q) (may-young h m t raws can q (from-regions q is)) out))
+        (no (list_any (holds_page q) (filter (goes_by plan.large) h.rows)) (λ is. clash (may_change h q) (goes-may q is) out))
+
+    beside-gone : (q : ℕ) → is_in Regions q ≡ false → list_any (holds_page q) (filter waits h.rows) ≡ false
+        → (list_any (region_page q) s2.from || list_any (holds_page q) (filter (goes_by plan.large) h.rows)) ≡ false
+    beside-gone q beside quiet = or_from (list_any (region_page q) s2.from) (list_any (holds_page q) (filter (goes_by plan.large) h.rows))
+        (no (list_any (region_page q) s2.from) (λ is. clash (is_in Regions q) (from-regions q is) beside))
+        (no (list_any (holds_page q) (filter (goes_by plan.large) h.rows)) (λ is. clash (list_any (holds_page q) (filter waits h.rows)) (gone-waits plan.large q h.rows is) quiet))
+
+    -- a page that is still mapped wasn't one of a large object that went
+    mapped-stays : (q : ℕ) → is_in Regions q ≡ false → IsTrue (is_mapped m4 t q) → (list_any (region_page q) s2.from || list_any (holds_page q) (filter (goes_by plan.large) h.rows)) ≡ false
+    mapped-stays q beside mapped = or_from (list_any (region_page q) s2.from) (list_any (holds_page q) (filter (goes_by plan.large) h.rows))
+        (no (list_any (region_page q) s2.from) (λ is. clash (is_in Regions q) (from-regions q is) beside))
+        (no (list_any (holds_page q) (filter (goes_by plan.large) h.rows)) (λ is.
+            let there : list_any (holds_page q) (filter (stays_by plan.large) h.rows) ≡ true = ap (λ (rs : List LargeRow). list_any (holds_page q) rs) (sym run.rows_are) ∙ sym (run.large_pages q (dead-window h.rows (goes_by plan.large) q can.large.rows is)) ∙ mapped in
+            clash (list_any (holds_page q) (filter (stays_by plan.large) h.rows)) there (one-side (stays_by plan.large) q h.rows can.large.rows.apart can.large.rows.bytes is)))
+
+    regions-alone : (q : ℕ) → is_in Regions q ≡ true → IsTrue (is_mapped m4 t q) → HasOneSharer m4 t q
+    regions-alone q inside mapped =
+        let any : list_any (region_page q) (filled (lists_of s4)) ≡ true = sym (run.region_pages q inside) ∙ mapped in
+        let in_use : list_any (region_page q) s2.in_use ≡ true = ap (λ (rows : List Row). list_any (region_page q) rows) (sym run.regions4.0 ∙ sym (append-nil s4.in_use) ∙ ap (λ (rows : List Row). s4.in_use ++ rows) (sym run.no_from.0)) ∙ any in
+        let alone : HasOneSharer m2 t q = run.moves.held.alone q (list_any-append (region_page q) s2.in_use s2.from ∙ or_left (list_any (region_page q) s2.in_use) (list_any (region_page q) s2.from) in_use) in
+        mapped-alone m2 m4 t q (only-trans m2 m3 m4 t (one-table m2 m3 t (may_change h) run.keeps3) run.only4) alone mapped
+
+    mapped-alone' : (q : ℕ) → (is_in Regions q ≡ true) ⊎ HasOneSharer m t q → IsTrue (is_mapped m4 t q) → HasOneSharer m4 t q
+    mapped-alone' q (inl inside) mapped = regions-alone q inside mapped
+    mapped-alone' q (inr alone) mapped = mapped-alone m m4 t q only-table alone mapped
+
+    may-cases : (q : ℕ) → may_change h q ≡ true → (is_in Regions q ≡ true) ⊎ HasOneSharer m t q
+    may-cases q may = elim (or_cases (is_in Regions q || list_any (holds_page q) (filter waits h.rows)) (list_any (λ (slot : Slot). nat_eq (page_of slot.at.0) q) h.slots) may) [
+      | inl objects ↦ elim (or_cases (is_in Regions q) (list_any (holds_page q) (filter waits h.rows)) objects) [ inl inside ↦ inl inside | inr large ↦ inr (can.large.alone q large) ]
+      | inr slots ↦
+          let it = any-at (λ (slot : Slot). nat_eq (page_of slot.at.0) q) h.slots slots in
+          inr (subst (λ (p : ℕ). HasOneSharer m t p) (eqb-true (page_of it.0.at.0) q it.2) (can.slots.alone it.0 (contains-in h.slots it.0 it.1)))
+    ]
 
     abbrev now : Raws
     now = copied tos
@@ -597,58 +658,6 @@ module _ (h : HeapState) (m : Memory) (t : ℕ) (raws : Raws) (plan : Listed) (c
       large_pages = run.large_pages;
       roots_lead = roots-lead;
     }
-
-    abbrev kept : Keeps m m1 t (is_page_of (gone h m t raws plan can ok))
-    kept = kept1 h m t raws plan can ok m1 run.clears run.sound1
-
-    gone-may : (q : ℕ) → is_page_of (gone h m t raws plan can ok) q ≡ true → may_change h q ≡ true
-    gone-may q is =
-        let it = any-at (λ (at : ℕ). nat_eq (page_of at) q) (addresses plan.weak) (any-fewer (λ (at : ℕ). nat_eq (page_of at) q) (is_dead (stays_in plan.stays) (view_of m t)) (addresses plan.weak) is) in
-        ap (may_change h) (sym (eqb-true (page_of it.0) q it.2)) ∙ (weak-page h m t raws plan can ok it.0 it.1).1
-
-    goes-may : (q : ℕ) → list_any (holds_page q) (filter (goes_by plan.large) h.rows) ≡ true → may_change h q ≡ true
-    goes-may q is = may-large h m t raws can q (gone-waits plan.large q h.rows is)
-
-    from-regions : (q : ℕ) → list_any (region_page q) s2.from ≡ true → is_in Regions q ≡ true
-    from-regions q is = from-window (lists_of s2) q run.moves.held.space is
-
-    not-gone : (q : ℕ) → may_change h q ≡ false → (list_any (region_page q) s2.from || list_any (holds_page q) (filter (goes_by plan.large) h.rows)) ≡ false
-    not-gone q out = or_from (list_any (region_page q) s2.from) (list_any (holds_page q) (filter (goes_by plan.large) h.rows))
-        (no (list_any (region_page q) s2.from) (λ is. clash (may_change h q) (may-young h m t raws can q (from-regions q is)) out))
-        (no (list_any (holds_page q) (filter (goes_by plan.large) h.rows)) (λ is. clash (may_change h q) (goes-may q is) out))
-
-    beside-gone : (q : ℕ) → is_in Regions q ≡ false → list_any (holds_page q) (filter waits h.rows) ≡ false
-        → (list_any (region_page q) s2.from || list_any (holds_page q) (filter (goes_by plan.large) h.rows)) ≡ false
-    beside-gone q beside quiet = or_from (list_any (region_page q) s2.from) (list_any (holds_page q) (filter (goes_by plan.large) h.rows))
-        (no (list_any (region_page q) s2.from) (λ is. clash (is_in Regions q) (from-regions q is) beside))
-        (no (list_any (holds_page q) (filter (goes_by plan.large) h.rows)) (λ is. clash (list_any (holds_page q) (filter waits h.rows)) (gone-waits plan.large q h.rows is) quiet))
-
-    -- a page that is still mapped wasn't one of a large object that went
-    mapped-stays : (q : ℕ) → is_in Regions q ≡ false → IsTrue (is_mapped m4 t q) → (list_any (region_page q) s2.from || list_any (holds_page q) (filter (goes_by plan.large) h.rows)) ≡ false
-    mapped-stays q beside mapped = or_from (list_any (region_page q) s2.from) (list_any (holds_page q) (filter (goes_by plan.large) h.rows))
-        (no (list_any (region_page q) s2.from) (λ is. clash (is_in Regions q) (from-regions q is) beside))
-        (no (list_any (holds_page q) (filter (goes_by plan.large) h.rows)) (λ is.
-            let there : list_any (holds_page q) (filter (stays_by plan.large) h.rows) ≡ true = ap (λ (rs : List LargeRow). list_any (holds_page q) rs) (sym run.rows_are) ∙ sym (run.large_pages q (dead-window h.rows (goes_by plan.large) q can.large.rows is)) ∙ mapped in
-            clash (list_any (holds_page q) (filter (stays_by plan.large) h.rows)) there (one-side (stays_by plan.large) q h.rows can.large.rows.apart can.large.rows.bytes is)))
-
-    regions-alone : (q : ℕ) → is_in Regions q ≡ true → IsTrue (is_mapped m4 t q) → HasOneSharer m4 t q
-    regions-alone q inside mapped =
-        let any : list_any (region_page q) (filled (lists_of s4)) ≡ true = sym (run.region_pages q inside) ∙ mapped in
-        let in_use : list_any (region_page q) s2.in_use ≡ true = ap (λ (rows : List Row). list_any (region_page q) rows) (sym run.regions4.0 ∙ sym (append-nil s4.in_use) ∙ ap (λ (rows : List Row). s4.in_use ++ rows) (sym run.no_from.0)) ∙ any in
-        let alone : HasOneSharer m2 t q = run.moves.held.alone q (list_any-append (region_page q) s2.in_use s2.from ∙ or_left (list_any (region_page q) s2.in_use) (list_any (region_page q) s2.from) in_use) in
-        mapped-alone m2 m4 t q (only-trans m2 m3 m4 t (one-table m2 m3 t (may_change h) run.keeps3) run.only4) alone mapped
-
-    mapped-alone' : (q : ℕ) → (is_in Regions q ≡ true) ⊎ HasOneSharer m t q → IsTrue (is_mapped m4 t q) → HasOneSharer m4 t q
-    mapped-alone' q (inl inside) mapped = regions-alone q inside mapped
-    mapped-alone' q (inr alone) mapped = mapped-alone m m4 t q only-table alone mapped
-
-    may-cases : (q : ℕ) → may_change h q ≡ true → (is_in Regions q ≡ true) ⊎ HasOneSharer m t q
-    may-cases q may = elim (or_cases (is_in Regions q || list_any (holds_page q) (filter waits h.rows)) (list_any (λ (slot : Slot). nat_eq (page_of slot.at.0) q) h.slots) may) [
-      | inl objects ↦ elim (or_cases (is_in Regions q) (list_any (holds_page q) (filter waits h.rows)) objects) [ inl inside ↦ inl inside | inr large ↦ inr (can.large.alone q large) ]
-      | inr slots ↦
-          let it = any-at (λ (slot : Slot). nat_eq (page_of slot.at.0) q) h.slots slots in
-          inr (subst (λ (p : ℕ). HasOneSharer m t p) (eqb-true (page_of it.0.at.0) q it.2) (can.slots.alone it.0 (contains-in h.slots it.0 it.1)))
-    ]
 
     pub leaves : LeavesPages h m m4 t
     leaves = record {
