@@ -1,13 +1,13 @@
 -- Pages of large objects and of regions while others are released.
-use Rattle.std.proofs.Common.{◌≡◌, ◌≢◌, ◌∙◌, ◌⊎◌, ◌||◌, ℕ, ◌+◌, ◌<◌, ◌≤◌, inl, inr, Bool, true, false, List, Option, Some, None, All, filter, map, nat_eq, refl, sym, ap, subst, arith, is_some, option_map}
+use Rattle.std.proofs.Common.{◌≡◌, ◌∙◌, ◌||◌, ℕ, inl, inr, Bool, true, false, List, Option, Some, None, All, filter, map, refl, sym, ap, arith, is_some, option_map}
 use Rattle.std.specs.Prelude.{IsTrue, nat_le, nat_lt}
 use Rattle.std.specs.List.{list_any}
-use Rattle.std.proofs.lemmas.Bool.{and_parts, false≢true, or_parts, true≢false}
+use Rattle.std.proofs.lemmas.Bool.{and_parts, false≢true, or_parts}
 use borrow.Author.Tests.{leb-true, ltb-true}
 use Rattle.page_tables.specs.declared.address.Addr.{Addr}
 use Rattle.page_tables.specs.declared.address.Window.TheVariants.{Large, Regions}
 use Rattle.page_tables.specs.Address.{is_in}
-use Rattle.cow_pages.specs.Memory.{frame_at, is_mapped, page_at, HasOneSharer, Memory, Page}
+use Rattle.cow_pages.specs.Memory.{is_mapped, page_at, HasOneSharer, Memory, Page}
 use Rattle.cow_pages.specs.Only.{OnlyTable}
 use Rattle.cow_pages.proofs.OnlyLemmas.{alone-stays}
 use Rattle.region_lists.specs.Rows.{Lists, Row}
@@ -19,7 +19,7 @@ use Rattle.region_space.proofs.DropLemmas.{from-window}
 use Rattle.large_objects.specs.declared.rows.LargeRow.{LargeRow}
 use Rattle.large_objects.specs.Pages.{holds_page, AreAlone, HasPages}
 use Rattle.large_objects.specs.Pages.{ReleasesRows as ReleasesLarge}
-use Rattle.large_objects.specs.Rows.{dead, goes, waits, AreRows}
+use Rattle.large_objects.specs.Rows.{dead, waits, AreRows}
 use Rattle.large_objects.proofs.LawLemmas.{pages-kept}
 use Rattle.large_objects.proofs.PageLemmas.{any-in-window}
 use Rattle.object_collection.specs.Phases.{goes_by, marked_by, LosesPages}

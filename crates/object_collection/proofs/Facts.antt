@@ -1,13 +1,11 @@
 -- What a process that can collect knows of its objects and their pages.
-use Rattle.std.proofs.Common.{◌≡◌, ◌≢◌, ◌∙◌, ◌⊎◌, ◌||◌, ◌&&◌, ℕ, ◌+◌, ◌-◌, ◌*◌, ◌/◌, ◌<◌, ◌≤◌, inl, inr, Bool, true, false, cond, List, [], ◌∷◌, Option, Some, None, All, filter, get_or, length, map, nat_eq, refl, sym, ap, subst, arith, is_some}
-use Rattle.std.specs.Prelude.{not, IsTrue, nat_le}
+use Rattle.std.proofs.Common.{◌≡◌, ◌∙◌, ◌⊎◌, ◌||◌, ℕ, ◌+◌, ◌-◌, ◌*◌, ◌/◌, ◌<◌, ◌≤◌, inl, inr, Bool, true, false, cond, List, [], ◌∷◌, Option, Some, None, All, filter, nat_eq, refl, sym, ap, subst, arith, is_some}
+use Rattle.std.specs.Prelude.{nat_le}
 use Rattle.std.specs.List.{list_any, Contains}
 use Rattle.std.proofs.lemmas.Bool.{and_from, and_parts, cases_eq, cond-false, cond-true, eq-eqb, le-leb, ne_eqb, or_cases, or_left, or_right, true≢false, false≢true}
 use Rattle.class_layout.specs.declared.kind.Kind.TheVariants.{Ref}
 use Rattle.class_layout.specs.declared.kind.FieldAt.{FieldAt}
-use Rattle.class_layout.specs.ClassList.{Class}
 use Rattle.class_layout.specs.Placing.{IsIn}
-use Rattle.page_tables.specs.declared.address.Addr.{Addr}
 use Rattle.page_tables.specs.declared.address.Window.TheVariants.{Regions}
 use Rattle.page_tables.specs.Address.{is_in, page_of}
 use Rattle.cow_pages.specs.Memory.{HasOneSharer, Memory}
@@ -17,16 +15,14 @@ use Rattle.object_view.proofs.Laid.{place-within, size-bounds}
 use Rattle.raw_objects.specs.Raws.{raw_size, Raws}
 use Rattle.raw_objects.specs.References.{in_regions}
 use Rattle.region_lists.specs.Rows.{Row}
-use Rattle.region_space.specs.Pages.{IsObjectIn}
 use Rattle.region_space.specs.Space.{filled, lists_of, IsFilled}
 use Rattle.region_space.proofs.LieLemmas.{all-both, any-holds, filled-within, lies-in, Both}
 use Rattle.region_space.proofs.PageLemmas.{inside}
 use Rattle.large_objects.specs.declared.rows.LargeRow.{LargeRow}
-use Rattle.large_objects.specs.Pages.{covers, holds_page}
+use Rattle.large_objects.specs.Pages.{holds_page}
 use Rattle.large_objects.specs.Rows.{row_at, slot_base, waits, IsBytes}
 use Rattle.large_objects.proofs.LawLemmas.{row-covers}
 use Rattle.large_objects.proofs.TableLemmas.{row-spot}
-use Rattle.live_objects.specs.Live.{addresses}
 use Rattle.live_objects.specs.Reach.{is_mortal, starts_of, waits_in}
 use Rattle.live_objects.proofs.ReachLemmas.{reached-node}
 use Rattle.live_objects.proofs.YoungLemmas.{cons-cases, in-first, in-rest}

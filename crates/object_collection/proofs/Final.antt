@@ -121,9 +121,9 @@ immune-few h m t raws plan can ok =
     let weak : List ℕ = addresses plan.weak in
     let ats : List ℕ = map (λ (slot : Slot). slot.at.0) h.slots in
     let few = length-le_from_is_member nat_eq_equiv (filter is_immune weak) ats (distinct-filter is_immune weak ok.weak.once) (λ q is.
-        let there = (is_member-Decides (λ a b. (eqb-true a b, eq-eqb a b)) (filter is_immune weak) q).0 is in
-        let found = filter-from is_immune weak q there in
-        (is_member-Decides (λ a b. (eqb-true a b, eq-eqb a b)) ats q).1 (listed q found.0 found.1)) in
+    let there = (is_member-Decides (λ a b. (eqb-true a b, eq-eqb a b)) (filter is_immune weak) q).0 is in
+    let found = filter-from is_immune weak q there in
+    (is_member-Decides (λ a b. (eqb-true a b, eq-eqb a b)) ats q).1 (listed q found.0 found.1)) in
     omega (arith, few, length-filter is_immune weak, length-map h.slots (λ (slot : Slot). slot.at.0))
   where
     listed : (q : ℕ) → Contains (addresses plan.weak) q → is_immune q ≡ true → Contains (map (λ (slot : Slot). slot.at.0) h.slots) q
@@ -227,8 +227,8 @@ module _ (h : HeapState) (m : Memory) (t : ℕ) (raws : Raws) (plan : Listed) (c
     mapped-stays q beside mapped = or_from (list_any (region_page q) s2.from) (list_any (holds_page q) (filter (goes_by plan.large) h.rows))
         (no (list_any (region_page q) s2.from) (λ is. clash (is_in Regions q) (from-regions q is) beside))
         (no (list_any (holds_page q) (filter (goes_by plan.large) h.rows)) (λ is.
-            let there : list_any (holds_page q) (filter (stays_by plan.large) h.rows) ≡ true = ap (λ (rs : List LargeRow). list_any (holds_page q) rs) (sym run.rows_are) ∙ sym (run.large_pages q (dead-window h.rows (goes_by plan.large) q can.large.rows is)) ∙ mapped in
-            clash (list_any (holds_page q) (filter (stays_by plan.large) h.rows)) there (one-side (stays_by plan.large) q h.rows can.large.rows.apart can.large.rows.bytes is)))
+        let there : list_any (holds_page q) (filter (stays_by plan.large) h.rows) ≡ true = ap (λ (rs : List LargeRow). list_any (holds_page q) rs) (sym run.rows_are) ∙ sym (run.large_pages q (dead-window h.rows (goes_by plan.large) q can.large.rows is)) ∙ mapped in
+        clash (list_any (holds_page q) (filter (stays_by plan.large) h.rows)) there (one-side (stays_by plan.large) q h.rows can.large.rows.apart can.large.rows.bytes is)))
 
     regions-alone : (q : ℕ) → is_in Regions q ≡ true → IsTrue (is_mapped m4 t q) → HasOneSharer m4 t q
     regions-alone q inside mapped =
@@ -292,7 +292,7 @@ module _ (h : HeapState) (m : Memory) (t : ℕ) (raws : Raws) (plan : Listed) (c
     dead-goes a has mortal unreached = elim (mortal-cases h.rows a mortal) [
       | inl inside ↦
           let same : now.raw a ≡ (cleared h m t raws plan can ok).raw a = run.moves.moves.same a has (λ i below e.
-              unreached (subst (λ (n : ℕ). IsReached h raws n) e ((ok.young.only (at_of plan.young i)).0 (get-in plan.young i below)).1)) in
+          unreached (subst (λ (n : ℕ). IsReached h raws n) e ((ok.young.only (at_of plan.young i)).0 (get-in plan.young i below)).1)) in
           led-by a (young-stays a inside) ∙ inside-goes a inside ∙ ap (λ (r : Raw). now_at r.header) same ∙ can.unmoved a has inside
       | inr waiting ↦
           let quiet : is_member plan.stays waiting.row.slot ≡ false = no (is_member plan.stays waiting.row.slot) (λ is. elim ((ok.stays.test waiting.row waiting.is_in).0 is) [
@@ -323,13 +323,14 @@ module _ (h : HeapState) (m : Memory) (t : ℕ) (raws : Raws) (plan : Listed) (c
     rows-left : AreRowsLeft h raws rows
     rows-left = record {
       stays = stays_by plan.large;
-      test = λ row there.
-          (λ is. elim (or_cases row.promoted (list_any (nat_eq (slot_base row.slot)) (addresses plan.large)) is) [ inl promoted ↦ inl promoted | inr listed ↦ inr (listed-row row listed) ],
-           λ either. elim either [
-             | inl promoted ↦ or_left row.promoted (list_any (nat_eq (slot_base row.slot)) (addresses plan.large)) promoted
-             | inr r ↦ or_right row.promoted (list_any (nat_eq (slot_base row.slot)) (addresses plan.large))
-                 (any-of (nat_eq (slot_base row.slot)) (addresses plan.large) (slot_base row.slot) ((ok.large.only (slot_base row.slot)).1 (slot-outside row.slot, r)) (eq-eqb (slot_base row.slot) (slot_base row.slot) refl))
-           ]);
+      test = λ row there. (
+        λ is. elim (or_cases row.promoted (list_any (nat_eq (slot_base row.slot)) (addresses plan.large)) is) [ inl promoted ↦ inl promoted | inr listed ↦ inr (listed-row row listed) ],
+        λ either. elim either [
+          | inl promoted ↦ or_left row.promoted (list_any (nat_eq (slot_base row.slot)) (addresses plan.large)) promoted
+          | inr r ↦ or_right row.promoted (list_any (nat_eq (slot_base row.slot)) (addresses plan.large))
+              (any-of (nat_eq (slot_base row.slot)) (addresses plan.large) (slot_base row.slot) ((ok.large.only (slot_base row.slot)).1 (slot-outside row.slot, r)) (eq-eqb (slot_base row.slot) (slot_base row.slot) refl))
+        ],
+      );
       rows_are = run.rows_are;
     }
 
@@ -438,7 +439,7 @@ module _ (h : HeapState) (m : Memory) (t : ℕ) (raws : Raws) (plan : Listed) (c
         let some : nat_eq n 0 ≡ false = ne_eqb n 0 (λ e. omega (arith, at, e)) in
         let leaves' : stays_in plan.stays n ≡ false = or_from (not (in_large n)) (is_member plan.stays (slot_in n)) (ap not large) row.1 in
         let dead' : is_dead (stays_in plan.stays) v (a + p.offset) ≡ true = and_from (not (nat_eq (u32_at v (a + p.offset)) 0)) (not (stays_in plan.stays (u32_at v (a + p.offset))))
-            (ap (λ (x : ℕ). not (nat_eq x 0)) word ∙ ap not some) (ap (λ (x : ℕ). not (stays_in plan.stays x)) word ∙ ap not leaves') in
+        (ap (λ (x : ℕ). not (nat_eq x 0)) word ∙ ap not some) (ap (λ (x : ℕ). not (stays_in plan.stays x)) word ∙ ap not leaves') in
         any-of (λ (b : ℕ). nat_eq b (a + p.offset)) (gone h m t raws plan can ok) (a + p.offset) (filter-in (is_dead (stays_in plan.stays) v) (addresses plan.weak) (a + p.offset) listed dead') (eq-eqb (a + p.offset) (a + p.offset) refl)
 
     stays-here : (a : ℕ) → raws.has a ≡ true → in_regions a ≡ false → now.raw a ≡ (cleared h m t raws plan can ok).raw a

@@ -1,8 +1,8 @@
 -- Rows of large objects that are marked, swept and counted.
 use Rattle.std.proofs.Common.{◌≡◌, ◌∙◌, ◌||◌, ℕ, suc, ◌+◌, ◌<◌, ◌≤◌, Bool, true, false, cond, List, [], ◌∷◌, ◌++◌, Option, Some, None, All, filter, get_or, length, map, nat_eq, take, refl, sym, ap, subst, arith, is_some, option_map}
 use Rattle.std.specs.Prelude.{not, IsTrue}
-use Rattle.std.specs.List.{list_any, Contains, IsDistinct}
-use Rattle.std.proofs.lemmas.Bool.{eqb-true, or_parts, true≢false, false≢true}
+use Rattle.std.specs.List.{list_any, Contains}
+use Rattle.std.proofs.lemmas.Bool.{eqb-true, true≢false}
 use Rattle.std.proofs.lemmas.List.{length-append, map-append}
 use Rattle.std.proofs.lemmas.List.Elements.{All-head, All-tail}
 use Rattle.std.proofs.lemmas.List.Folds.{list_any-append}

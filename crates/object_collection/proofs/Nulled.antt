@@ -1,24 +1,20 @@
 -- After the weak references that lead to dead large objects were cleared.
-use Rattle.std.proofs.Common.{◌≡◌, ◌≢◌, ◌∙◌, ◌⊎◌, ◌||◌, ◌&&◌, ℕ, ◌+◌, ◌*◌, ◌%◌, ◌<◌, ◌≤◌, inl, inr, Bool, true, false, List, [], ◌∷◌, All, filter, get_or, length, map, nat_eq, refl, sym, ap, subst, arith, pos}
+use Rattle.std.proofs.Common.{◌≡◌, ◌∙◌, ℕ, ◌+◌, ◌%◌, inl, inr, true, List, [], ◌∷◌, All, get_or, nat_eq, refl, sym, ap, subst, arith}
 use Rattle.std.specs.Prelude.{IsTrue}
 use Rattle.std.specs.List.{list_any, Contains}
-use Rattle.std.proofs.lemmas.Bool.{eq-eqb, eqb-true, or_left, or_right}
+use Rattle.std.proofs.lemmas.Bool.{eq-eqb, eqb-true}
 use Rattle.std.proofs.lemmas.List.{get_or_default}
 use Rattle.class_layout.specs.declared.kind.Kind.TheVariants.{Ref}
 use Rattle.class_layout.specs.declared.kind.FieldAt.{FieldAt}
 use Rattle.class_layout.specs.ClassList.{Class}
 use Rattle.class_layout.specs.Placing.{IsIn}
-use Rattle.page_tables.specs.declared.address.Addr.{Addr}
-use Rattle.page_tables.specs.declared.address.Window.TheVariants.{Regions}
-use Rattle.page_tables.specs.Address.{is_in, page_of}
+use Rattle.page_tables.specs.Address.{page_of}
 use Rattle.cow_pages.specs.Memory.{HasOneSharer, Memory}
 use Rattle.cow_pages.specs.View.{view_of}
 use Rattle.heap_graph.specs.Places.{places_of}
 use Rattle.object_view.specs.declared.names.Slot.{Slot}
 use Rattle.object_view.proofs.Laid.{place-within}
-use Rattle.raw_objects.specs.Raws.{raw_size, Raws}
-use Rattle.large_objects.specs.Pages.{holds_page}
-use Rattle.large_objects.specs.Rows.{waits}
+use Rattle.raw_objects.specs.Raws.{Raws}
 use Rattle.live_objects.specs.Live.{addresses}
 use Rattle.live_objects.proofs.YoungLemmas.{in-first, in-rest}
 use Rattle.weak_refs.specs.Weak.{dead_in, is_page_of, AreSlots}

@@ -1,6 +1,6 @@
 -- What is listed before a collection writes.
-use Rattle.std.proofs.Common.{◌≡◌, ◌∙◌, ◌⊎◌, ℕ, ◌+◌, ◌<◌, ◌≤◌, inl, inr, Bool, true, false, List, [], ◌++◌, filter, length, map, refl, sym, ap, subst, arith}
-use Rattle.std.specs.Prelude.{◌↔◌, IsTrue}
+use Rattle.std.proofs.Common.{◌≡◌, ◌∙◌, ◌⊎◌, ℕ, ◌<◌, ◌≤◌, inl, inr, Bool, true, false, List, ◌++◌, filter, length, map, sym, ap, subst}
+use Rattle.std.specs.Prelude.{◌↔◌}
 use Rattle.std.specs.List.{Contains}
 use Rattle.std.proofs.lemmas.Bool.{and_parts}
 use Rattle.std.proofs.lemmas.List.{append-nil}
@@ -19,8 +19,7 @@ use Rattle.region_lists.specs.Rows.{Row}
 use Rattle.region_space.specs.Packed.{packed_pages}
 use Rattle.region_space.specs.Pages.{IsObjectIn}
 use Rattle.large_objects.specs.declared.rows.LargeRow.{LargeRow}
-use Rattle.large_objects.specs.Rows.{slot_base}
-use Rattle.live_objects.specs.Live.{addresses, HasLarge, ListsYoung}
+use Rattle.live_objects.specs.Live.{addresses}
 use Rattle.live_objects.specs.Reach.{is_mortal, is_strong, starts_of, CanMark, IsFound}
 use Rattle.live_objects.proofs.YoungLemmas.{map-from}
 use Rattle.object_moves.specs.Copies.{at_of, sizes_at, IsYoungAt}
@@ -28,7 +27,7 @@ use Rattle.heap_graph.specs.Packing.{end_from}
 use Rattle.heap_graph.specs.Sizes.{parts_for}
 use Rattle.object_collection.specs.Collects.{CanCollect, HeapState, IsReached}
 use Rattle.object_collection.specs.Listed.{leads_young, AreSlotsOf, AreWeak, KnowsLive}
-use Rattle.object_collection.specs.Phases.{AreStaying, IsPlan, Listed, ListsLarge}
+use Rattle.object_collection.specs.Phases.{AreStaying, IsPlan, ListsLarge}
 use Rattle.object_collection.proofs.Facts.{all-at, filter-from, mortal-cases, reached-has}
 use Rattle.object_collection.proofs.Final.{slot-outside}
 use Rattle.object_collection.proofs.Room.{few, live-once, live-regions, live-young}
@@ -75,15 +74,16 @@ module _ (h : HeapState) (m : Memory) (t : ℕ) (raws : Raws) (can : CanCollect 
     large-listed : ListsLarge h raws large
     large-listed = record {
       only = λ a. (
-          (λ c.
-              let it = (slots.only a).0 c in
-              (ap in_regions it.3 ∙ slot-outside it.0, subst (λ (n : ℕ). IsReached h raws n) (sym it.3) ((knows.large_are.only it.0 it.1).0 it.2))),
-          (λ it. elim (mortal-cases h.rows a (reached-has h m t raws can a it.1).1) [
-            | inl inside ↦ absurd (clash (in_regions a) inside it.0)
-            | inr waiting ↦
-                let within = all-at (λ (row : LargeRow). row.slot < large_slot_count) h.rows waiting.row can.large.rows.within waiting.is_in in
-                (slots.only a).1 (waiting.row.slot, within, (knows.large_are.only waiting.row.slot within).1 (subst (λ (n : ℕ). IsReached h raws n) (sym waiting.at_is) it.1), sym waiting.at_is)
-          ]));
+        (λ c.
+            let it = (slots.only a).0 c in
+            (ap in_regions it.3 ∙ slot-outside it.0, subst (λ (n : ℕ). IsReached h raws n) (sym it.3) ((knows.large_are.only it.0 it.1).0 it.2))),
+        (λ it. elim (mortal-cases h.rows a (reached-has h m t raws can a it.1).1) [
+          | inl inside ↦ absurd (clash (in_regions a) inside it.0)
+          | inr waiting ↦
+              let within = all-at (λ (row : LargeRow). row.slot < large_slot_count) h.rows waiting.row can.large.rows.within waiting.is_in in
+              (slots.only a).1 (waiting.row.slot, within, (knows.large_are.only waiting.row.slot within).1 (subst (λ (n : ℕ). IsReached h raws n) (sym waiting.at_is) it.1), sym waiting.at_is)
+        ]),
+      );
       once = slots.once;
     }
       where
@@ -96,9 +96,10 @@ module _ (h : HeapState) (m : Memory) (t : ℕ) (raws : Raws) (can : CanCollect 
       all = same_room ∙ knows.large_are.all;
       test = λ row there.
           let within = all-at (λ (r : LargeRow). r.slot < large_slot_count) h.rows row can.large.rows.within there in
-          let reach = knows.large_are.only row.slot within in
-          (λ is. elim ((added row there).0 is) [ inl promoted ↦ inl promoted | inr member ↦ inr (reach.0 member) ],
-           λ either. elim either [ inl promoted ↦ (added row there).1 (inl promoted) | inr reached ↦ (added row there).1 (inr (reach.1 reached)) ]);
+          let reach = knows.large_are.only row.slot within in (
+            λ is. elim ((added row there).0 is) [ inl promoted ↦ inl promoted | inr member ↦ inr (reach.0 member) ],
+            λ either. elim either [ inl promoted ↦ (added row there).1 (inl promoted) | inr reached ↦ (added row there).1 (inr (reach.1 reached)) ],
+          );
     }
 
     pub planned : AreWeak h raws (addresses weak) → turned ≡ filter leads_young h.slots → packed_pages (sizes_at h.classes raws young) ≤ new.spare

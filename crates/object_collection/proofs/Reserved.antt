@@ -3,7 +3,7 @@ use Rattle.std.proofs.Common.{◌≡◌, ℕ, refl, sym, ap, subst}
 use Rattle.cow_pages.specs.Memory.{IsSound, Memory}
 use Rattle.cow_pages.specs.View.{byte_at, view_of, SameView}
 use Rattle.object_view.specs.Seen.{RoseBy}
-use Rattle.raw_objects.specs.Raws.{HoldsRaws, Raws}
+use Rattle.raw_objects.specs.Raws.{Raws}
 use Rattle.raw_objects.proofs.Raws.{raws-seen}
 use Rattle.object_collection.specs.Collects.{CanCollect, HeapState, LeavesPages}
 

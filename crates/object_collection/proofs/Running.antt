@@ -1,5 +1,5 @@
 -- What holds while a collection writes: what the next step asks for.
-use Rattle.std.proofs.Common.{◌≡◌, ◌≢◌, ◌∙◌, ◌⊎◌, ◌||◌, ℕ, ◌+◌, ◌-◌, ◌*◌, ◌/◌, suc, cond, ◌<◌, ◌≤◌, inl, inr, Bool, true, false, List, [], ◌∷◌, ◌++◌, Option, Some, None, All, filter, get_or, length, map, nat_eq, refl, sym, ap, subst, arith, is_some, pos}
+use Rattle.std.proofs.Common.{◌≡◌, ◌≢◌, ◌∙◌, ℕ, ◌+◌, ◌-◌, ◌*◌, ◌/◌, suc, cond, ◌<◌, ◌≤◌, inl, inr, Bool, true, false, List, [], ◌∷◌, ◌++◌, Option, All, filter, get_or, length, nat_eq, refl, sym, ap, subst, arith, is_some, pos}
 use Rattle.std.specs.Prelude.{◌^◌, IsTrue, nat_le, nat_lt, not}
 use Rattle.std.specs.List.{list_any, Contains}
 use Rattle.std.proofs.lemmas.Bool.{and_from, and_parts, eq-eqb, eqb-true, le-leb, lt-ltb, or_from, or_left, or_parts, or_right, true≢false}
@@ -28,7 +28,7 @@ use Rattle.object_view.proofs.Lookups.{address-fits}
 use Rattle.object_view.proofs.Stores.{loaded}
 use Rattle.object_view.specs.Changes.{pages_in}
 use Rattle.object_view.proofs.Laid.{size-bounds}
-use Rattle.raw_objects.specs.Raws.{raw_size, HoldsRaws, Raw, Raws}
+use Rattle.raw_objects.specs.Raws.{raw_size, Raw, Raws}
 use Rattle.raw_objects.specs.References.{in_regions, IsSlotIn, IsTarget}
 use Rattle.raw_objects.specs.References.{address_in as address_of}
 use Rattle.raw_objects.proofs.Kept.{one-table}
@@ -37,7 +37,7 @@ use Rattle.region_space.specs.Space.{filled, lists_of, IsFilled, Space}
 use Rattle.region_space.specs.Space.{AreAlone as AreRegionsAlone}
 use Rattle.region_space.specs.Space.{HasPages as HasRegionPages}
 use Rattle.region_space.specs.Space.{holds_page as region_page}
-use Rattle.region_space.proofs.DropLemmas.{from-window, held-run}
+use Rattle.region_space.proofs.DropLemmas.{held-run}
 use Rattle.region_space.proofs.LieLemmas.{any-holds, filled-within}
 use Rattle.region_space.specs.Packed.{address_in}
 use Rattle.region_space.specs.Pages.{covers}
@@ -341,8 +341,8 @@ module _ (h : HeapState) (m : Memory) (t : ℕ) (raws : Raws) (plan : Listed) (c
           let held = can.targets out.object out.place out.has out.is_in out.kind_is in
           let small : slot.target.0 < 2 ^ 32 = subst (λ (n : ℕ). n < 2 ^ 32) (sym (ap address_of (out.target_is ∙ held.is))) held.below in
           let quiet : list_any (λ (b : ℕ). nat_eq b (out.object + out.place.offset)) gone ≡ false = not-true (list_any (λ (b : ℕ). nat_eq b (out.object + out.place.offset)) gone) (λ is.
-              let lost = gone-lost h m t raws plan can ok out.object out.place slot.target.0 out.has out.is_in out.kind_is (sym out.target_is) small is in
-              windows-apart (page_of slot.target.0) (listed-slot i below).1 (lost-large plan.stays slot.target.0 lost)) in
+          let lost = gone-lost h m t raws plan can ok out.object out.place slot.target.0 out.has out.is_in out.kind_is (sym out.target_is) small is in
+          windows-apart (page_of slot.target.0) (listed-slot i below).1 (lost-large plan.stays slot.target.0 lost)) in
           out.target_is ∙ sym (ap (λ (b : Bool). cond b (pos 0) ((raws.raw out.object).values out.place)) quiet)
 
       slot-raw : (i : ℕ) (below : i < length plan.turned) → now.raw (turned-slot i below).object ≡ cleared.raw (turned-slot i below).object

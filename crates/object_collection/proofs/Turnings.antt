@@ -1,5 +1,5 @@
 -- References of objects and slots that are turned one list after the other.
-use Rattle.std.proofs.Common.{◌≡◌, ◌∙◌, ◌||◌, ℕ, ◌+◌, ◌<◌, ◌≤◌, Bool, true, List, length, refl, sym, ap, subst, arith}
+use Rattle.std.proofs.Common.{◌≡◌, ℕ, ◌<◌, Bool, true, List, length, refl, sym, subst, arith}
 use Rattle.std.specs.Prelude.{IsTrue}
 use Rattle.class_layout.specs.ClassList.{Class}
 use Rattle.class_layout.specs.declared.kind.Kind.TheVariants.{Ref}
@@ -12,11 +12,11 @@ use Rattle.object_view.proofs.Laid.{place-within, size-bounds}
 use Rattle.raw_objects.specs.Keeps.{Keeps}
 use Rattle.raw_objects.specs.Raws.{raw_size, HoldsRaws, Raws}
 use Rattle.raw_objects.specs.References.{turned_where, IsSlotIn}
-use Rattle.raw_objects.proofs.Kept.{keeps-then, space-page}
+use Rattle.raw_objects.proofs.Kept.{space-page}
 use Rattle.raw_objects.proofs.Turned.{none-turned}
 use Rattle.object_moves.specs.Copies.{at_of}
-use Rattle.object_moves.specs.Turns.{is_reference_of, is_slot_of, slot_of, AreSlotsIn, AreTurnable, ObjectsAlone, ObjectsWithin}
-use Rattle.object_collection.specs.Phases.{none_turned, objects_turned, young_turned, CanTurn, Turning}
+use Rattle.object_moves.specs.Turns.{slot_of, AreSlotsIn, ObjectsAlone}
+use Rattle.object_collection.specs.Phases.{none_turned}
 
 -- pages of objects keep their frames alone
 pub objects-alone : (cs : List Class) (old new : Memory) (t : ℕ) (raws : Raws) (may : ℕ → Bool) (ats : List Addr) → HoldsRaws cs (view_of old t) raws

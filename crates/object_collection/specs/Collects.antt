@@ -20,7 +20,7 @@ use Rattle.large_objects.specs.declared.rows.LargeRow.{LargeRow}
 use Rattle.large_objects.specs.Rows.{row_at, slot_base, waits, AreRows}
 use Rattle.large_objects.specs.Pages.{holds_page, AreAlone, HasPages}
 use Rattle.live_objects.specs.Live.{addresses, ListsYoung}
-use Rattle.live_objects.specs.Reach.{in_large, is_mortal, is_node, starts_of, IsFound, IsHeld, Reached}
+use Rattle.live_objects.specs.Reach.{in_large, is_mortal, starts_of, IsFound, IsHeld, Reached}
 use Rattle.object_moves.specs.Copies.{at_of, sizes_at, HoldsRegions, PacksAt}
 
 -- what a process knows of its heap besides the pages: its classes, its regions, the rows of its large objects, what its

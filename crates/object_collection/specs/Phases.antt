@@ -1,5 +1,5 @@
 -- What a collection has listed, and what stands after each of its steps.
-use Rattle.std.specs.Prelude.{◌≡◌, ◌≢◌, ◌⊎◌, ◌↔◌, ℕ, ◌+◌, ◌-◌, ◌/◌, ◌<◌, ◌≤◌, Bool, true, false, ◌&&◌, ◌||◌, not, IsTrue, List, [], filter, length, nat_eq, if◌then◌else◌}
+use Rattle.std.specs.Prelude.{◌≡◌, ◌≢◌, ◌⊎◌, ◌↔◌, ℕ, ◌+◌, ◌-◌, ◌/◌, ◌<◌, ◌≤◌, Bool, true, false, ◌&&◌, ◌||◌, not, List, [], filter, length, nat_eq, if◌then◌else◌}
 use Rattle.std.specs.List.{list_any, Contains, IsDistinct}
 use Rattle.model_numbers.specs.Numbers.{large_base, large_slot_bytes, large_slot_count, region_bytes}
 use Rattle.bit_set.specs.Bits.{Bits, is_member, room}
@@ -11,16 +11,15 @@ use Rattle.heap_graph.specs.Packing.{end_from}
 use Rattle.heap_graph.specs.Sizes.{parts_for}
 use Rattle.object_view.specs.declared.names.Slot.{Slot}
 use Rattle.raw_objects.specs.Raws.{HoldsRaws, Raws}
-use Rattle.raw_objects.specs.References.{goes, in_regions, turned_where}
+use Rattle.raw_objects.specs.References.{goes, in_regions}
 use Rattle.region_space.specs.Packed.{packed_pages}
-use Rattle.region_space.specs.Pages.{page_sum}
 use Rattle.region_space.specs.Space.{lists_of, Space}
 use Rattle.large_objects.specs.declared.rows.LargeRow.{LargeRow}
 use Rattle.large_objects.specs.Rows.{row_at, slot_base}
 use Rattle.live_objects.specs.Live.{addresses, ListsYoung}
 use Rattle.live_objects.specs.Reach.{in_large, waits_in}
 use Rattle.object_moves.specs.Copies.{at_of, moved, sizes_at, AreMoved, HoldsRegions, PacksAt}
-use Rattle.object_moves.specs.Turns.{is_reference_of, is_slot_of, AreSlotsIn, AreTargets, AreTurnable, ObjectsAlone, ObjectsWithin}
+use Rattle.object_moves.specs.Turns.{is_reference_of, is_slot_of, AreSlotsIn, AreTargets, AreTurnable, ObjectsAlone}
 use Rattle.object_collection.specs.declared.plan.Plan.{Plan}
 use Rattle.object_collection.specs.Collects.{HeapState, IsReached}
 use Rattle.object_collection.specs.Listed.{leads_young, AreWeak}

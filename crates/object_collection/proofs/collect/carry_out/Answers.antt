@@ -1,9 +1,6 @@
-use Rattle.std.proofs.Common.{◌≡◌, ◌∙◌, ℕ, ◌+◌, ◌*◌, ◌<◌, ◌≤◌, filter, length, List, arith, refl, sym, ap, subst}
-use Rattle.cow_pages.specs.Memory.{IsSound, Memory}
+use Rattle.std.proofs.Common.{arith, refl, subst}
 use Rattle.raw_objects.specs.Keeps.{Keeps}
 use Rattle.raw_objects.specs.Raws.{Raws}
-use Rattle.region_space.specs.Space.{lists_of}
-use Rattle.large_objects.specs.Rows.{waits}
 use Rattle.object_collection.specs.Collects.{may_change, state_of, HeapState}
 use Rattle.object_collection.specs.Phases.{listed_in, IsPlan, Listed}
 use Rattle.object_collection.proofs.Running.{same-listed}

@@ -1,4 +1,4 @@
-use Rattle.std.proofs.Common.{◌≡◌, ◌*◌, length}
+use Rattle.std.proofs.Common.{◌*◌, length}
 use Rattle.cow_pages.proofs.OnlyLemmas.{only-reserved, only-trans}
 use Rattle.raw_objects.specs.Raws.{Raws}
 use Rattle.object_collection.specs.Collects.{state_of, HeapState}

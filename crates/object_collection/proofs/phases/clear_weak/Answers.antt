@@ -1,4 +1,4 @@
-use Rattle.std.proofs.Common.{◌≡◌, ◌∙◌, ℕ, true, is_ok, sym, ap, true≢false}
+use Rattle.std.proofs.Common.{◌∙◌, ℕ, is_ok, sym, ap, true≢false}
 use Rattle.cow_pages.specs.View.{view_of}
 use Rattle.page_tables.specs.Address.{page_of}
 use Rattle.std.specs.Prelude.{nat_eq}

@@ -1,10 +1,9 @@
-use Rattle.std.proofs.Common.{◌≡◌, ◌∙◌, ◌++◌, ◌∷◌, [], ℕ, ◌+◌, ◌<◌, Bool, List, get_or, length, map, nat_eq, take, refl, sym, ap, subst, arith}
+use Rattle.std.proofs.Common.{◌≡◌, ◌∙◌, ℕ, ◌<◌, List, get_or, length, map, take, sym, ap, subst, arith}
 use Rattle.std.specs.Prelude.{IsTrue, is_some}
 use Rattle.std.proofs.lemmas.List.{get_or_default, take_all}
 use Rattle.page_tables.specs.declared.address.Addr.{Addr}
 use Rattle.large_objects.specs.declared.rows.LargeRow.{LargeRow}
 use Rattle.large_objects.specs.Rows.{marked_at, row_at}
-use Rattle.live_objects.specs.Live.{addresses}
 use Rattle.live_objects.proofs.StartLemmas.{take-next}
 use Rattle.live_objects.proofs.YoungLemmas.{map-in}
 use Rattle.object_collection.specs.Phases.{marked_by}

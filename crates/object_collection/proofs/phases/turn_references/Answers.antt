@@ -1,4 +1,4 @@
-use Rattle.std.proofs.Common.{◌≡◌, ◌∙◌, ◌<◌, ◌≤◌, ℕ, Bool, true, List, length, map, refl, sym, ap, subst}
+use Rattle.std.proofs.Common.{ℕ, true, List, refl, sym, subst}
 use Rattle.class_layout.specs.ClassList.{Class}
 use Rattle.cow_pages.specs.Memory.{Memory}
 use Rattle.cow_pages.specs.View.{view_of}

@@ -1,9 +1,9 @@
-use Rattle.std.proofs.Common.{◌≡◌, ◌∙◌, ℕ, ◌+◌, ◌≤◌, Bool, cond, false, filter, length, take, refl, ap, arith, List}
+use Rattle.std.proofs.Common.{◌∙◌, ℕ, Bool, cond, false, filter, length, refl, ap, arith, List}
 use Rattle.std.specs.Prelude.{not}
 use Rattle.std.proofs.lemmas.List.{take_all}
 use Rattle.large_objects.specs.declared.rows.LargeRow.{LargeRow}
 use Rattle.large_objects.specs.Rows.{waits}
-use Rattle.object_collection.proofs.Marked.{filter-few, filter-next, rows-few}
+use Rattle.object_collection.proofs.Marked.{filter-next, rows-few}
 use Rattle.object_collection.proofs.phases.waiting.Goals.{then-not-row, else-not-row}
 use Rattle.object_collection.proofs.phases.waiting.Goals as goal
 

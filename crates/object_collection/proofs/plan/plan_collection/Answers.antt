@@ -1,9 +1,9 @@
-use Rattle.std.proofs.Common.{◌≡◌, ◌∙◌, ◌≤◌, ℕ, List, length, refl, sym, ap, subst, arith}
+use Rattle.std.proofs.Common.{◌≡◌, ◌∙◌, List, refl, ap, arith}
 use Rattle.page_tables.specs.declared.address.Addr.{Addr}
 use Rattle.raw_objects.specs.Raws.{Raws}
 use Rattle.region_space.specs.Packed.{packed_pages}
 use Rattle.object_moves.specs.Copies.{sizes_at}
-use Rattle.object_collection.specs.Collects.{state_of, CanCollect, HeapState}
+use Rattle.object_collection.specs.Collects.{state_of, HeapState}
 use Rattle.object_collection.specs.Listed.{KnowsLive}
 use Rattle.object_collection.proofs.Planning.{can-mark, few-regions, knows-still, planned, young-counted}
 use Rattle.object_collection.proofs.plan.plan_collection.Goals as goal
@@ -42,9 +42,11 @@ pages_for-pages-requires c =
     let mark = can-mark h c.args.frames.now c.args.t.0 raws can in
     let knows : KnowsLive h c.args.frames.now c.args.t.0 raws c.in_ok-live.live.young.items c.in_ok-live.live.large = record { can = can; young_are = c.in_ok-live.ensures.young raws mark; large_are = c.in_ok-live.ensures.large raws mark } in
     let once = knows-still h _ c.find_live.new.frames c.args.t.0 raws _ _ c.find_live.ensures.same knows in
-    let twice = knows-still h _ c.weak_slots.new.frames c.args.t.0 raws _ _ c.weak_slots.ensures.same once in
-    (raws, young-counted h _ c.args.t.0 raws c.in_ok-live.live.young.items c.as_slice.result.now c.in_ok-live.live.large c.as_slice.ensures.value twice,
-      few-regions h _ c.args.t.0 raws c.in_ok-live.live.young.items c.as_slice.result.now c.in_ok-live.live.large c.as_slice.ensures.value twice)
+    let twice = knows-still h _ c.weak_slots.new.frames c.args.t.0 raws _ _ c.weak_slots.ensures.same once in (
+      raws,
+      young-counted h _ c.args.t.0 raws c.in_ok-live.live.young.items c.as_slice.result.now c.in_ok-live.live.large c.as_slice.ensures.value twice,
+      few-regions h _ c.args.t.0 raws c.in_ok-live.live.young.items c.as_slice.result.now c.in_ok-live.live.large c.as_slice.ensures.value twice,
+    )
 
 pub add_promoted-requires : goal.add_promoted-requires
 add_promoted-requires c =
