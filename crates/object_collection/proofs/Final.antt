@@ -1,12 +1,12 @@
 -- What holds after a collection.
-use Rattle.std.proofs.Common.{◌≡◌, ◌≢◌, ◌∙◌, ◌⊎◌, ◌||◌, ◌&&◌, ℕ, ◌+◌, ◌*◌, ◌/◌, ◌<◌, ◌≤◌, inl, inr, Bool, true, false, cond, List, [], ◌∷◌, ◌++◌, All, Option, Some, None, pos, ◌-◌, filter, get_or, length, map, nat_eq, refl, sym, ap, subst, arith}
+use Rattle.std.proofs.Common.{◌≡◌, ◌∙◌, ◌⊎◌, ◌||◌, ◌&&◌, ℕ, ◌+◌, ◌*◌, ◌<◌, ◌≤◌, inl, inr, Bool, true, false, cond, List, [], ◌∷◌, ◌++◌, Option, Some, None, pos, filter, get_or, length, map, nat_eq, refl, sym, ap, subst, arith}
 use Rattle.std.specs.Prelude.{◌↔◌, ◌^◌, if◌then◌else◌, ℤ, IsTrue, count_by, is_some, nat_le, nat_lt, not}
 use Rattle.std.specs.List.{list_any, AllByRecursion, Contains}
 use Rattle.std.specs.List.{IsDistinct}
 use Rattle.std.proofs.lemmas.Cmp.{nat_eq_equiv}
 use Rattle.std.proofs.lemmas.List.Sums.{length-filter}
 use Rattle.std.proofs.lemmas.Map.Made.{is_member-Decides, length-le_from_is_member}
-use borrow.Author.Tests.{leb-true, ltb-true}
+use borrow.Author.Tests.{ltb-true}
 use Rattle.model_numbers.specs.Numbers.{large_slot_count, region_base}
 use Rattle.live_objects.specs.Reach.{in_large, is_mortal, is_node, is_strong, starts_of, waits_in, IsFound}
 use Rattle.live_objects.proofs.YoungLemmas.{in-first, in-rest, map-from, map-in}
@@ -18,22 +18,22 @@ use Rattle.live_objects.proofs.ReachLemmas.{reached-held, reached-start}
 use Rattle.std.proofs.lemmas.List.{append-nil, get_or-map, get_or_default, length-map}
 use Rattle.std.proofs.lemmas.List.Folds.{list_any-append}
 use Rattle.page_tables.specs.declared.address.Window.TheVariants.{Image, Regions, Zygote}
-use Rattle.page_tables.specs.Address.{is_immune, is_in, offset_of, page_of}
+use Rattle.page_tables.specs.Address.{is_immune, is_in, page_of}
 use Rattle.object_view.specs.declared.names.Slot.{Slot}
 use Rattle.object_view.proofs.Rises.{reads-rise, rose-more}
 use Rattle.raw_objects.proofs.Kept.{one-table}
 use Rattle.region_lists.specs.Rows.{Row}
-use Rattle.region_space.proofs.DropLemmas.{from-window, held-run}
+use Rattle.region_space.proofs.DropLemmas.{from-window}
 use Rattle.large_objects.proofs.PageLemmas.{one-side}
 use Rattle.page_tables.specs.declared.address.Addr.{Addr}
 use Rattle.cow_pages.specs.Memory.{flag_of, is_mapped, page_at, HasOneSharer, IsSound, Memory, Page}
 use Rattle.cow_pages.specs.Only.{OnlyTable}
-use Rattle.cow_pages.specs.View.{byte_at, byte_in, u32_at, view_of}
+use Rattle.cow_pages.specs.View.{u32_at, view_of}
 use Rattle.cow_pages.proofs.OnlyLemmas.{only-trans}
 use Rattle.object_view.specs.Changes.{reads_after_all}
 use Rattle.object_view.specs.Seen.{RoseBy}
 use Rattle.raw_objects.specs.Keeps.{Keeps}
-use Rattle.raw_objects.specs.Raws.{among, raw_size, HoldsRaws, IsOffPage, Raw, Raws}
+use Rattle.raw_objects.specs.Raws.{among, HoldsRaws, Raw, Raws}
 use Rattle.raw_objects.specs.References.{goes, in_regions, now_at, turned, turned_where}
 use Rattle.raw_objects.specs.References.{address_in as address_of}
 use Rattle.class_layout.specs.declared.kind.Kind.TheVariants.{Ref}
@@ -44,22 +44,14 @@ use Rattle.graph_pages.specs.Collected.{turned_by}
 use Rattle.heap_graph.specs.Places.{places_of}
 use Rattle.heap_graph.proofs.Places.{bytes-low, one-place}
 use Rattle.object_view.proofs.Laid.{place-within}
-use Rattle.large_objects.proofs.TableLemmas.{row-found, row-spot}
-use Rattle.large_objects.proofs.LawLemmas.{row-covers}
-use Rattle.std.proofs.lemmas.Bool.{cases_order, le-leb, ne_eqb}
-use Rattle.region_space.specs.Space.{filled, lists_of, IsFilled, IsSpace, Space}
-use Rattle.region_space.specs.Pages.{lies_in, IsObjectIn}
-use Rattle.region_space.proofs.LieLemmas.{any-holds}
-use Rattle.region_lists.specs.Rows.{Lists}
-use Rattle.region_lists.proofs.MoveLemmas.{apart-parts, distinct-left}
-use Rattle.raw_objects.proofs.Paging.{raws-among, raws-gone}
-use Rattle.heap_graph.specs.Sizes.{size_in}
-use Rattle.object_collection.proofs.PageLemmas.{size-at}
+use Rattle.large_objects.proofs.TableLemmas.{row-spot}
+use Rattle.std.proofs.lemmas.Bool.{cases_order, ne_eqb}
+use Rattle.region_space.specs.Space.{filled, lists_of, IsSpace, Space}
 use Rattle.region_space.specs.Space.{HasPages as HasRegionPages}
 use Rattle.region_space.specs.Space.{holds_page as region_page}
 use Rattle.large_objects.specs.declared.rows.LargeRow.{LargeRow}
 use Rattle.large_objects.specs.Pages.{holds_page, HasPages}
-use Rattle.large_objects.specs.Rows.{row_at, slot_base, waits, AreRows, IsBytes}
+use Rattle.large_objects.specs.Rows.{row_at, slot_base, waits, AreRows}
 use Rattle.live_objects.specs.Live.{addresses}
 use Rattle.weak_refs.specs.Weak.{is_dead, is_page_of, ClearsSlots}
 use Rattle.object_moves.specs.Copies.{at_of, moved, sizes_at, HoldsRegions, KeepsOutside, PacksAt}
@@ -72,8 +64,8 @@ use Rattle.object_view.proofs.Stores.{loaded}
 use Rattle.object_view.proofs.Laid.{ref-kind}
 use Rattle.object_collection.specs.Collects.{may_change, AreLeft, AreRowsLeft, CanCollect, HeapState, IsCollected, IsKept, IsReached, Leads, LeavesPages}
 use Rattle.object_collection.specs.Phases.{goes_by, is_lost, is_turned, leads_to, slot_in, stays_by, stays_in, HaveMoved, IsPlan, Listed, LosesPages, Turning}
-use Rattle.object_collection.proofs.Marked.{filter-fewer, gone-waits, row-found-at}
-use Rattle.object_collection.proofs.Dropping.{dead-window, mapped-alone, windows-apart}
+use Rattle.object_collection.proofs.Marked.{filter-fewer, gone-waits}
+use Rattle.object_collection.proofs.Dropping.{dead-window, mapped-alone}
 use Rattle.object_collection.proofs.Facts.{all-at, any-at, any-of, filter-from, filter-in, may-large, may-young, mortal-cases, reached-has, row-in, waiting-row, IsWaiting}
 use Rattle.object_collection.proofs.Nulled.{slot-in, weak-page, weak-reference}
 use Rattle.object_collection.proofs.Steps.{any-fewer}

@@ -1,28 +1,27 @@
 -- The objects that are left are held once the from regions and the rows that go were released.
-use Rattle.std.proofs.Common.{◌≡◌, ◌≢◌, ◌∙◌, ◌⊎◌, ◌||◌, ◌&&◌, ℕ, ◌+◌, ◌-◌, ◌*◌, ◌/◌, ◌<◌, ◌≤◌, inl, inr, Bool, true, false, List, [], ◌++◌, Option, Some, None, All, filter, get_or, length, map, nat_eq, nat_le, nat_lt, refl, sym, ap, subst, arith, is_some}
+use Rattle.std.proofs.Common.{◌≡◌, ◌≢◌, ◌∙◌, ◌⊎◌, ◌||◌, ℕ, ◌+◌, ◌-◌, ◌/◌, ◌<◌, ◌≤◌, inl, inr, Bool, true, false, List, [], ◌++◌, Option, Some, None, All, filter, get_or, length, map, nat_eq, nat_le, nat_lt, refl, sym, ap, subst, arith, is_some}
 use Rattle.std.specs.Prelude.{not, IsTrue}
 use Rattle.std.specs.List.{list_any, Contains, IsDistinct}
-use Rattle.std.proofs.lemmas.Bool.{and_from, and_parts, cases_order, eq-eqb, eqb-true, le-leb, or_cases, or_left, or_right, true≢false}
+use Rattle.std.proofs.lemmas.Bool.{and_from, and_parts, cases_order, eq-eqb, le-leb, or_cases, or_left, or_right, true≢false}
 use Rattle.std.proofs.lemmas.List.{append-nil}
 use Rattle.std.proofs.lemmas.List.Elements.{Contains-append_left, Contains-append_right}
 use Rattle.std.proofs.lemmas.List.Folds.{list_any-append}
 use borrow.Author.Tests.{leb-true, ltb-true}
 use Rattle.class_layout.specs.ClassList.{Class}
 use Rattle.page_tables.specs.declared.address.Addr.{Addr}
-use Rattle.page_tables.specs.declared.address.Window.TheVariants.{Large, Regions}
+use Rattle.page_tables.specs.declared.address.Window.TheVariants.{Large}
 use Rattle.page_tables.specs.Address.{is_in, page_of}
 use Rattle.cow_pages.specs.Memory.{is_live, IsSound, Memory}
 use Rattle.cow_pages.specs.Only.{OnlyTable}
 use Rattle.cow_pages.specs.View.{view_of}
 use Rattle.cow_pages.proofs.ViewLemmas.{byte-page, mapped-page}
 use Rattle.heap_graph.specs.Sizes.{size_in}
-use Rattle.object_view.proofs.Laid.{size-bounds}
 use Rattle.raw_objects.specs.Raws.{among, raw_size, HoldsRaws, Raw, Raws}
 use Rattle.raw_objects.specs.References.{in_regions, turned_where}
 use Rattle.raw_objects.proofs.Paging.{raws-among, raws-gone}
 use Rattle.region_lists.specs.Rows.{Lists, Row}
 use Rattle.region_lists.proofs.MoveLemmas.{apart-parts, distinct-left}
-use Rattle.region_space.specs.Pages.{covers, lies_in, IsObjectIn}
+use Rattle.region_space.specs.Pages.{lies_in, IsObjectIn}
 use Rattle.region_space.specs.Space.{filled, lists_of, IsFilled, IsSpace, Space}
 use Rattle.region_space.specs.Space.{HasPages as HasRegionPages}
 use Rattle.region_space.specs.Space.{holds_page as region_page}
@@ -41,7 +40,7 @@ use Rattle.object_moves.specs.Copies.{at_of, moved, sizes_at, HoldsRegions}
 use Rattle.object_collection.specs.Collects.{CanCollect, HeapState, IsKept}
 use Rattle.object_collection.specs.Phases.{goes_by, stays_by, HaveMoved, IsPlan, Listed, LosesPages}
 use Rattle.object_collection.proofs.Dropping.{dead-window, mapped-alone, windows-apart}
-use Rattle.object_collection.proofs.Facts.{all-at, any-at, any-of, filter-from, row-in}
+use Rattle.object_collection.proofs.Facts.{all-at, any-at, any-of, filter-from}
 use Rattle.object_collection.proofs.Marked.{row-found-at}
 use Rattle.object_collection.proofs.Nulled.{null}
 use Rattle.object_collection.proofs.PageLemmas.{size-at}
