@@ -1,12 +1,12 @@
 -- What holds after a collection.
-use Rattle.std.proofs.Common.{◌≡◌, ◌≢◌, ◌∙◌, ◌⊎◌, ◌||◌, ◌&&◌, ℕ, ◌+◌, ◌*◌, ◌/◌, ◌<◌, ◌≤◌, inl, inr, Bool, true, false, cond, List, [], ◌∷◌, ◌++◌, All, Option, Some, None, pos, ◌-◌, filter, get_or, length, map, nat_eq, refl, sym, ap, subst, arith}
+use Rattle.std.proofs.Common.{◌≡◌, ◌∙◌, ◌⊎◌, ◌||◌, ◌&&◌, ℕ, ◌+◌, ◌*◌, ◌<◌, ◌≤◌, inl, inr, Bool, true, false, cond, List, [], ◌∷◌, ◌++◌, Option, Some, None, pos, filter, get_or, length, map, nat_eq, refl, sym, ap, subst, arith}
 use Rattle.std.specs.Prelude.{◌↔◌, ◌^◌, if◌then◌else◌, ℤ, IsTrue, count_by, is_some, nat_le, nat_lt, not}
 use Rattle.std.specs.List.{list_any, AllByRecursion, Contains}
 use Rattle.std.specs.List.{IsDistinct}
 use Rattle.std.proofs.lemmas.Cmp.{nat_eq_equiv}
 use Rattle.std.proofs.lemmas.List.Sums.{length-filter}
 use Rattle.std.proofs.lemmas.Map.Made.{is_member-Decides, length-le_from_is_member}
-use borrow.Author.Tests.{leb-true, ltb-true}
+use borrow.Author.Tests.{ltb-true}
 use Rattle.model_numbers.specs.Numbers.{large_slot_count, region_base}
 use Rattle.live_objects.specs.Reach.{in_large, is_mortal, is_node, is_strong, starts_of, waits_in, IsFound}
 use Rattle.live_objects.proofs.YoungLemmas.{in-first, in-rest, map-from, map-in}
@@ -18,22 +18,22 @@ use Rattle.live_objects.proofs.ReachLemmas.{reached-held, reached-start}
 use Rattle.std.proofs.lemmas.List.{append-nil, get_or-map, get_or_default, length-map}
 use Rattle.std.proofs.lemmas.List.Folds.{list_any-append}
 use Rattle.page_tables.specs.declared.address.Window.TheVariants.{Image, Regions, Zygote}
-use Rattle.page_tables.specs.Address.{is_immune, is_in, offset_of, page_of}
+use Rattle.page_tables.specs.Address.{is_immune, is_in, page_of}
 use Rattle.object_view.specs.declared.names.Slot.{Slot}
 use Rattle.object_view.proofs.Rises.{reads-rise, rose-more}
 use Rattle.raw_objects.proofs.Kept.{one-table}
 use Rattle.region_lists.specs.Rows.{Row}
-use Rattle.region_space.proofs.DropLemmas.{from-window, held-run}
+use Rattle.region_space.proofs.DropLemmas.{from-window}
 use Rattle.large_objects.proofs.PageLemmas.{one-side}
 use Rattle.page_tables.specs.declared.address.Addr.{Addr}
 use Rattle.cow_pages.specs.Memory.{flag_of, is_mapped, page_at, HasOneSharer, IsSound, Memory, Page}
 use Rattle.cow_pages.specs.Only.{OnlyTable}
-use Rattle.cow_pages.specs.View.{byte_at, byte_in, u32_at, view_of}
+use Rattle.cow_pages.specs.View.{u32_at, view_of}
 use Rattle.cow_pages.proofs.OnlyLemmas.{only-trans}
 use Rattle.object_view.specs.Changes.{reads_after_all}
 use Rattle.object_view.specs.Seen.{RoseBy}
 use Rattle.raw_objects.specs.Keeps.{Keeps}
-use Rattle.raw_objects.specs.Raws.{among, raw_size, HoldsRaws, IsOffPage, Raw, Raws}
+use Rattle.raw_objects.specs.Raws.{among, HoldsRaws, Raw, Raws}
 use Rattle.raw_objects.specs.References.{goes, in_regions, now_at, turned, turned_where}
 use Rattle.raw_objects.specs.References.{address_in as address_of}
 use Rattle.class_layout.specs.declared.kind.Kind.TheVariants.{Ref}
@@ -44,22 +44,14 @@ use Rattle.graph_pages.specs.Collected.{turned_by}
 use Rattle.heap_graph.specs.Places.{places_of}
 use Rattle.heap_graph.proofs.Places.{bytes-low, one-place}
 use Rattle.object_view.proofs.Laid.{place-within}
-use Rattle.large_objects.proofs.TableLemmas.{row-found, row-spot}
-use Rattle.large_objects.proofs.LawLemmas.{row-covers}
-use Rattle.std.proofs.lemmas.Bool.{cases_order, le-leb, ne_eqb}
-use Rattle.region_space.specs.Space.{filled, lists_of, IsFilled, IsSpace, Space}
-use Rattle.region_space.specs.Pages.{lies_in, IsObjectIn}
-use Rattle.region_space.proofs.LieLemmas.{any-holds}
-use Rattle.region_lists.specs.Rows.{Lists}
-use Rattle.region_lists.proofs.MoveLemmas.{apart-parts, distinct-left}
-use Rattle.raw_objects.proofs.Paging.{raws-among, raws-gone}
-use Rattle.heap_graph.specs.Sizes.{size_in}
-use Rattle.object_collection.proofs.PageLemmas.{size-at}
+use Rattle.large_objects.proofs.TableLemmas.{row-spot}
+use Rattle.std.proofs.lemmas.Bool.{cases_order, ne_eqb}
+use Rattle.region_space.specs.Space.{filled, lists_of, IsSpace, Space}
 use Rattle.region_space.specs.Space.{HasPages as HasRegionPages}
 use Rattle.region_space.specs.Space.{holds_page as region_page}
 use Rattle.large_objects.specs.declared.rows.LargeRow.{LargeRow}
 use Rattle.large_objects.specs.Pages.{holds_page, HasPages}
-use Rattle.large_objects.specs.Rows.{row_at, slot_base, waits, AreRows, IsBytes}
+use Rattle.large_objects.specs.Rows.{row_at, slot_base, waits, AreRows}
 use Rattle.live_objects.specs.Live.{addresses}
 use Rattle.weak_refs.specs.Weak.{is_dead, is_page_of, ClearsSlots}
 use Rattle.object_moves.specs.Copies.{at_of, moved, sizes_at, HoldsRegions, KeepsOutside, PacksAt}
@@ -72,12 +64,13 @@ use Rattle.object_view.proofs.Stores.{loaded}
 use Rattle.object_view.proofs.Laid.{ref-kind}
 use Rattle.object_collection.specs.Collects.{may_change, AreLeft, AreRowsLeft, CanCollect, HeapState, IsCollected, IsKept, IsReached, Leads, LeavesPages}
 use Rattle.object_collection.specs.Phases.{goes_by, is_lost, is_turned, leads_to, slot_in, stays_by, stays_in, HaveMoved, IsPlan, Listed, LosesPages, Turning}
-use Rattle.object_collection.proofs.Marked.{filter-fewer, gone-waits, row-found-at}
-use Rattle.object_collection.proofs.Dropping.{dead-window, mapped-alone, windows-apart}
+use Rattle.object_collection.proofs.Marked.{filter-fewer, gone-waits}
+use Rattle.object_collection.proofs.Dropping.{dead-window, mapped-alone}
 use Rattle.object_collection.proofs.Facts.{all-at, any-at, any-of, filter-from, filter-in, may-large, may-young, mortal-cases, reached-has, row-in, waiting-row, IsWaiting}
 use Rattle.object_collection.proofs.Nulled.{slot-in, weak-page, weak-reference}
 use Rattle.object_collection.proofs.Steps.{any-fewer}
-use Rattle.object_collection.proofs.Running.{cleared, filled-window, contains-in, get-in, gone, gone-lost, stays-raw, copy-has, copy-inside, kept1, lost-large, only-three, regions-high, same-length, young-reached}
+use Rattle.object_collection.proofs.Remaining.{held-left, Stays}
+use Rattle.object_collection.proofs.Running.{cleared, contains-in, get-in, gone, gone-lost, stays-raw, copy-has, copy-inside, kept1, lost-large, only-three, regions-high, same-length, young-reached}
 
 no : (b : Bool) → (b ≡ true → ⊥) → b ≡ false
 no true fails = absurd (fails refl)
@@ -142,33 +135,14 @@ slot-outside slot = no (in_regions (slot_base slot)) (λ is.
     let below = ltb-true (page_of (slot_base slot)) 327680 parts.1 in
     omega (arith, below))
 
--- a slot of a waiting object lies in the large window
--- a byte of a page that is as it was
-byte-same : (old new : Memory) (t at : ℕ) → page_at new t (page_of at) ≡ page_at old t (page_of at) → byte_at new t at ≡ byte_at old t at
-unfolding byte_at
-byte-same old new t at same = ap (λ (o : Option Page). byte_in o (offset_of at)) same
-
--- no page is of a row in use and of a from row
-rows-apart : (s : Lists) (p : ℕ) → IsSpace s → list_any (region_page p) s.in_use ≡ true → list_any (region_page p) s.from ≡ true → ⊥
-rows-apart s p space used from =
-    let one = any-at (region_page p) s.in_use used in
-    let two = any-at (region_page p) s.from from in
-    let numbers = λ (rows : List Row). map (λ (r : Row). r.region) rows in
-    let apart = apart-parts (numbers s.in_use) (numbers s.from) (distinct-left (numbers s.in_use ++ numbers s.from) s.free space.lists.apart) in
-    let others = all-at (λ (k : ℕ). All (λ (n : ℕ). n ≢ k) (numbers s.in_use)) (numbers s.from) two.0.region apart (map-in (λ (r : Row). r.region) s.from two.0 two.1) in
-    let differ = all-at (λ (n : ℕ). n ≢ two.0.region) (numbers s.in_use) one.0.region others (map-in (λ (r : Row). r.region) s.in_use one.0 one.1) in
-    let here = held-run one.0 p one.2 in
-    let there = held-run two.0 p two.2 in
-    let most = (all-at IsFilled (filled s) one.0 space.filled (Contains-append_left s.in_use s.from one.0 one.1)).most in
-    let more = (all-at IsFilled (filled s) two.0 space.filled (Contains-append_right s.in_use s.from two.0 two.1)).most in
-    differ (omega (arith, here.from, here.to, there.from, there.to, most, more))
-
+-- where a listed address stands
 index-of : (ats : List Addr) (a : ℕ) → Contains (addresses ats) a → (i : ℕ) × (i < length ats) × (at_of ats i ≡ a)
 index-of ats a c =
     let n = length-map ats (λ (x : Addr). x.0) in
     let below : c.0 < length ats = omega (arith, c.1, n) in
     (c.0, below, sym (get_or-map (λ (x : Addr). x.0) ats c.0 (record { 0 = 0 }) 0 below) ∙ get_or_default (addresses ats) c.0 0 a c.1 ∙ c.2)
 
+-- a slot of a waiting object lies in the large window
 row-large : (rows : List LargeRow) (a : ℕ) → AreRows rows → IsWaiting rows a → in_large a ≡ true
 row-large rows a are it =
     let within = all-at (λ (row : LargeRow). row.slot < large_slot_count) rows it.row are.within it.is_in in
@@ -644,121 +618,20 @@ module _ (h : HeapState) (m : Memory) (t : ℕ) (raws : Raws) (plan : Listed) (c
           };
     }
 
-    abbrev dropped : ℕ → Bool
-    dropped p = list_any (region_page p) s2.from || list_any (holds_page p) (filter (goes_by plan.large) h.rows)
-
-    in_use-filled : filled (lists_of s4) ≡ s2.in_use
-    in_use-filled = ap (λ (rows : List Row). s4.in_use ++ rows) run.no_from.0 ∙ append-nil s4.in_use ∙ run.regions4.0
-
-    -- one that is left in the regions is a copy
-    left-copy : (a : ℕ) → left-raws.has a ≡ true → in_regions a ≡ true → (i : ℕ) × (i < length tos) × (at_of tos i ≡ a)
-    left-copy a has inside =
-        let it = any-at (λ (y : Addr). nat_eq y.0 a) tos (sym (test-inside a inside) ∙ (and_parts (now.has a) (left-test a) has).1) in
-        (it.1.0, it.1.1, ap (λ (y : Addr). y.0) (get_or_default tos it.1.0 (record { 0 = 0 }) it.0 it.1.1 ∙ it.1.2) ∙ eqb-true it.0.0 a it.2)
-
-    copy-size : (i : ℕ) → i < length tos → raw_size h.classes now (at_of tos i) ≡ get_or (sizes_at h.classes (cleared h m t raws plan can ok) plan.young) i 0
-    copy-size i below =
-        let less : i < length plan.young = omega (arith, below, length-same) in
-        ap (λ (r : Raw). size_in h.classes r.shape) (run.moves.moves.copy i less) ∙ sym (size-at h.classes (cleared h m t raws plan can ok) plan.young i less)
-
-    -- its pages are of the rows in use
-    left-page : (a k : ℕ) → left-raws.has a ≡ true → in_regions a ≡ true → k < raw_size h.classes now a → list_any (region_page (page_of (a + k))) s2.in_use ≡ true
-    left-page a k has inside less =
-        let it = left-copy a has inside in
-        let size : ℕ = get_or (sizes_at h.classes (cleared h m t raws plan can ok) plan.young) it.0 0 in
-        let same : raw_size h.classes now a ≡ size = ap (raw_size h.classes now) (sym it.2) ∙ copy-size it.0 it.1 in
-        let p : ℕ = page_of (a + k) in
-        let at = it.2 in
-        run.moves.packed.each p it.0 it.1 (and_from (nat_le (page_of (at_of tos it.0)) p) (nat_le p (page_of (at_of tos it.0 + size - 1)))
-        (le-leb (page_of (at_of tos it.0)) p (omega (arith, at))) (le-leb p (page_of (at_of tos it.0 + size - 1)) (omega (arith, at, less, same))))
-
-    left-object : (a : ℕ) → left-raws.has a ≡ true → in_regions a ≡ true → IsObjectIn s2.in_use a (raw_size h.classes now a)
-    left-object a has inside =
-        let object = run.moves.held.rows a (and_parts (now.has a) (left-test a) has).0 inside in
-        let n : ℕ = raw_size h.classes now a in
-        record {
-          some = object.some;
-          there = elim (or_cases (list_any (lies_in a n) s2.in_use) (list_any (lies_in a n) s2.from) (sym (list_any-append (lies_in a n) s2.in_use s2.from) ∙ object.there)) [
-            | inl mine ↦ mine
-            | inr other ↦ absurd (rows-apart (lists_of s2) (page_of (a + 0)) run.moves.held.space (left-page a 0 has inside (omega (arith, object.some))) (any-holds s2.from a n 0 other (omega (arith, object.some))))
-          ];
-        }
-
-    -- one that isn't lost isn't that of a row that goes
-    other-row : (a : ℕ) (row : LargeRow) → Contains h.rows row → goes_by plan.large row ≡ true → a ≡ slot_base row.slot → in_regions a ≡ false → is_lost h.rows plan.stays a ≡ false → ⊥
-    other-row a row there goes' same out quiet =
-        let stays' : stays_by plan.large row ≡ false = flip (stays_by plan.large row) goes' in
-        let parts = or_parts row.promoted (list_any (nat_eq (slot_base row.slot)) (addresses plan.large)) stays' in
-        let found : row_at h.rows a ≡ Some row = ap (row_at h.rows) same ∙ row-found-at h.rows row can.large.rows there in
-        let r = waiting-reached a (record { row = row; found = found; is_in = there; waits_is = ap not parts.0; at_is = sym same }) quiet in
-        let listed = any-of (nat_eq (slot_base row.slot)) (addresses plan.large) a ((ok.large.only a).1 (out, r)) (eq-eqb (slot_base row.slot) a (sym same)) in
-        clash (list_any (nat_eq (slot_base row.slot)) (addresses plan.large)) listed parts.1
-
-    -- an object that is left isn't on a page of a large one that goes
-    off-large : (a k : ℕ) → raws.has a ≡ true → in_regions a ≡ false → is_lost h.rows plan.stays a ≡ false → k < raw_size h.classes raws a → list_any (holds_page (page_of (a + k))) (filter (goes_by plan.large) h.rows) ≡ true → ⊥
-    off-large a k has out quiet less is =
-        let p : ℕ = page_of (a + k) in
-        let it = any-at (holds_page p) (filter (goes_by plan.large) h.rows) is in
-        let found = filter-from (goes_by plan.large) h.rows it.0 it.1 in
-        let row : LargeRow = it.0 in
-        let s : ℕ = slot_base row.slot in
-        let bytes = all-at (λ (r : LargeRow). IsBytes r.bytes) h.rows row can.large.rows.bytes found.0 in
-        let slot = all-at (λ (r : LargeRow). r.slot < large_slot_count) h.rows row can.large.rows.within found.0 in
-        let there = can.large.has row found.0 in
-        let covers_it = and_parts (nat_le (page_of s) p) (nat_le p (page_of (s + (row.bytes + 7) / 8 * 8 - 1))) (sym (row-covers row p bytes) ∙ it.2) in
-        let low = leb-true (page_of s) p covers_it.0 in
-        let high = leb-true p (page_of (s + (row.bytes + 7) / 8 * 8 - 1)) covers_it.1 in
-        let most = bytes.most in
-        elim (cases_order a s) [
-          | inl same ↦ other-row a row found.0 found.1 same out quiet
-          | inr order ↦ elim order [
-            | inl before ↦ let apart = can.held.holds.apart a s has there.0 before in omega (arith, apart, less, low)
-            | inr behind ↦
-                let large : in_large a ≡ true = inside 524288 655360 (page_of a) (omega (arith, behind)) (omega (arith, high, slot, most)) in
-                let mine = row-found h.rows a (can.large.only a has large) in
-                let at = mine.2 in
-                omega (arith, at, behind, high, most)
-          ]
+    left-stays : (b : ℕ) → left-raws.has b ≡ true → Stays h m t raws plan can ok tos tests left-test b
+    left-stays b has =
+        let it = left-kept b has in
+        elim (kept-cases it.0 it.1) [
+          | inl copy ↦ inl (copy.0, copy.1, sym copy.3 ∙ it.2)
+          | inr beside' ↦
+              let same : it.0 ≡ b = sym beside'.1 ∙ it.2 in
+              inr (subst (λ (x : ℕ). IsKept h raws x) same it.1, ap in_regions (sym same) ∙ beside'.0)
         ]
 
-    off-dropped : (p : ℕ) → dropped p ≡ true → IsOffPage h.classes left-raws p
-    off-dropped p is a k has less page = by (in_regions a) refl (or_cases (list_any (region_page p) s2.from) (list_any (holds_page p) (filter (goes_by plan.large) h.rows)) is)
-      where
-        by : (b : Bool) → in_regions a ≡ b → (list_any (region_page p) s2.from ≡ true) ⊎ (list_any (holds_page p) (filter (goes_by plan.large) h.rows) ≡ true) → ⊥
-        by true inside (inl from) = rows-apart (lists_of s2) p run.moves.held.space (ap (λ (q : ℕ). list_any (region_page q) s2.in_use) (sym page) ∙ left-page a k has inside less) from
-        by true inside (inr large) =
-            windows-apart p (filled-window (lists_of s2) p run.moves.held.space (list_any-append (region_page p) s2.in_use s2.from ∙ or_left (list_any (region_page p) s2.in_use) (list_any (region_page p) s2.from) (ap (λ (q : ℕ). list_any (region_page q) s2.in_use) (sym page) ∙ left-page a k has inside less)))
-            (dead-window h.rows (goes_by plan.large) p can.large.rows large)
-        by false out (inl from) =
-            let inside = and_parts (nat_le 262144 p) (nat_lt p 327680) (from-regions p from) in
-            let low = leb-true 262144 p inside.0 in
-            let high = ltb-true p 327680 inside.1 in
-            elim (run.moves.held.others a (and_parts (now.has a) (left-test a) has).0 out) [ inl before ↦ omega (arith, before, low, page, less) | inr behind ↦ omega (arith, behind, high, page) ]
-        by false out (inr large) =
-            let parts = and_parts (now.has a) (left-test a) has in
-            let quiet : is_lost h.rows plan.stays a ≡ false = flip (is_lost h.rows plan.stays a) (sym (test-outside a out) ∙ parts.1) in
-            elim (run.moves.moves.only a parts.0) [
-              | inl old ↦
-                  let size : raw_size h.classes now a ≡ raw_size h.classes raws a = ap (λ (r : Raw). size_in h.classes r.shape) (stays-here a old out) in
-                  off-large a k old out quiet (omega (arith, less, size)) (ap (λ (q : ℕ). list_any (holds_page q) (filter (goes_by plan.large) h.rows)) page ∙ large)
-              | inr it ↦ clash (in_regions a) (ap in_regions (sym it.2) ∙ tos-inside it.0 (omega (arith, it.1, length-same))) out
-            ]
-
     left-held : HoldsRegions h.classes m4 t (lists_of s4) left-raws
-    left-held = record {
-      live = run.loses.live t ∙ run.keeps3.live t ∙ run.outside.live t ∙ kept.live t ∙ can.held.live;
-      sound = run.sound4;
-      space = run.space;
-      pages = run.region_pages;
-      alone = λ p is. let inside = filled-window (lists_of s4) p run.space is in regions-alone p inside (run.region_pages p inside ∙ is);
-      holds = raws-gone h.classes (view_of m3 t) (view_of m4 t) left-raws dropped
-          (raws-among h.classes (view_of m3 t) (turned_where now tests) left-test run.turned) off-dropped
-          (λ at quiet.
-          let same = run.loses.others t (page_of at) (inr quiet) in
-          (byte-same m3 m4 t at same, ap (λ (o : Option Page). is_some o) same));
-      rows = λ a has inside. subst (λ (rows : List Row). IsObjectIn rows a (raw_size h.classes now a)) (sym in_use-filled) (left-object a has inside);
-      others = λ a has out. run.moves.held.others a (and_parts (now.has a) (left-test a) has).0 out;
-    }
+    left-held =
+        held-left h m t raws plan can ok tos tests left-test m2 m3 m4 s2 s4 run.moves length-same left-stays
+        (run.keeps3.live t ∙ run.outside.live t ∙ (kept1 h m t raws plan can ok m1 run.clears run.sound1).live t ∙ can.held.live) run.turned run.loses (only-trans m2 m3 m4 t (one-table m2 m3 t (may_change h) run.keeps3) run.only4) run.sound4 run.space run.region_pages run.regions4.0 run.no_from.0
 
     pub collected : IsCollected h m4 t raws s4 rows roots
     collected = record {

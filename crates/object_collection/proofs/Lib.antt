@@ -11,6 +11,7 @@ pub mod WeakLemmas
 pub mod AllWeak
 pub mod Running
 pub mod Sizes
+pub mod Remaining
 pub mod Final
 pub mod Reserved
 pub mod Planning
