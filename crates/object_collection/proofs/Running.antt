@@ -40,7 +40,7 @@ use Rattle.region_space.specs.Space.{holds_page as region_page}
 use Rattle.region_space.proofs.DropLemmas.{held-run}
 use Rattle.region_space.proofs.LieLemmas.{any-holds, filled-within}
 use Rattle.region_space.specs.Packed.{address_in}
-use Rattle.region_space.specs.Pages.{covers}
+use Rattle.page_runs.specs.Covered.{covers}
 use Rattle.region_space.proofs.PageLemmas.{inside}
 use Rattle.region_lists.specs.Rows.{Lists}
 use Rattle.region_space.specs.Space.{IsSpace}
