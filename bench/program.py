@@ -33,9 +33,8 @@ def write(path, text):
         file.write(text)
 
 
-def build(folder, name, used, files, words):
-    """Writes the program's files and the crates that it uses, builds it as `rt run` does, which proves it, and answers
-    where it is. The words make a short run."""
+def write_crates(folder, name, used, files):
+    """Writes the program's files and the crates that it uses, and answers the folder of its crate."""
     uses = read_crates()
     crates = below(uses, used)
     skip = shutil.ignore_patterns("out", "must-fail")
@@ -48,6 +47,13 @@ def build(folder, name, used, files, words):
     for path, text in files.items():
         write(os.path.join(crate, path), text)
     subprocess.run(["git", "init", "-q", folder], check=True)
+    return crate
+
+
+def build(folder, name, used, files, words):
+    """Writes a program with the crates that it uses, builds it as `rt run` does, which proves it, and answers where it
+    is. The words make a short run."""
+    crate = write_crates(folder, name, used, files)
     done = subprocess.run(["rt", "run", "--", *words], cwd=crate, capture_output=True, text=True)
     program = os.path.join(crate, "out", name)
     if done.returncode != 0 or not os.path.exists(program):
