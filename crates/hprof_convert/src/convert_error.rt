@@ -11,7 +11,7 @@ pub enum ConvertError {
     /// stands before it.
     #[error("no layout at {offset}")]
     NoLayout { offset: u64 },
-    /// Memory ran out.
+    /// Memory ran out, or there is more than 4 bytes can number: identifiers, or bytes of a segment.
     #[error("out of memory")]
     OutOfMemory,
 }
