@@ -58,7 +58,7 @@ fn wide_fields_size(width: u32, list: &[(u64, u8)]) -> Option<u32>
     times(list.len(), each)
 }
 
-/// The bytes of a wide class: 14 and 7 identifiers, and those of its lists.
+/// The bytes of a wide class: 15 and 7 identifiers, and those of its lists.
 fn wide_class_size(
     width: u32,
     constants: &[(u16, u8, Bytes)],
