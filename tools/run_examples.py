@@ -9,7 +9,9 @@ PROGRAM is crates/artheap_cli/out/artheap_cli if not given: ./build makes it. --
 In docs/script.md an example is a block `script`, `pattern` or `bytes`, with its options behind that word, and the next
 block `report`, where `..` in front stands for lines that aren't shown. Between them the page tells the status. In a
 pattern `{0..9}` makes a line for each number, and `{x*100}` is 100 times x. In bytes each line ends as it says.
-In docs/dumps.md a block `dump` stands for a script: in each line pairs of digits of base 16, and words behind them.
+In docs/dumps.md a block `dump` stands for a script: in each line pairs of digits of base 16, and words behind them. It is
+what `artheap read` takes, and a block `dump convert` what `artheap convert` takes: the next block is the `dump` that is
+written then, or a report.
 In examples/ the first line of a script names its words where it wants an option. Beside SCRIPT.script stand the files
 that its dumps leave: SCRIPT.PROCESS.K.map is a table of addresses as it is, SCRIPT.PROCESS.K.listing what `artheap read`
 prints of a dump.
@@ -24,8 +26,9 @@ from collections import namedtuple
 
 TOP = os.path.dirname(os.path.dirname(os.path.realpath(__file__)))
 
-# where it stands, the words behind the program's name, the script, the status or None, the lines of the report, and the
-# texts of the tables and of the listings of its dumps by their names, or None where it doesn't tell them
+# where it stands, the words behind the program's name, the script, the status or None, the lines of the report, or the
+# bytes where it is a dump, and the texts of the tables and of the listings of its dumps by their names, or None where it
+# doesn't tell them
 Example = namedtuple("Example", "place words script status report dumped")
 
 
@@ -56,15 +59,17 @@ def examples_of_page(file):
     given = None
     for found in block.finditer(text):
         kind, options, lines = found[1], (found[2] or "").split(), found[3].splitlines()
+        is_converted = kind == "dump" and given is not None and given.words == ["convert"]
+        if given and (kind == "report" or is_converted):
+            told = re.search(r"status (\d)", text[end : found.start()])
+            report = script_of(kind, lines) if is_converted else lines
+            yield given._replace(status=int(told[1]) if told else None, report=report)
+            given = None
         if kind != "report":
             place = f"{file}:{text.count(chr(10), 0, found.start()) + 1}"
-            words = ["read"] if kind == "dump" else ["run", *options]
+            words = (options or ["read"]) if kind == "dump" else ["run", *options]
             given = Example(place, words, script_of(kind, lines), None, None, None)
             end = found.end()
-        elif given:
-            told = re.search(r"status (\d)", text[end : found.start()])
-            yield given._replace(status=int(told[1]) if told else None, report=lines)
-            given = None
 
 
 def dumped_beside(folder, stem):
@@ -112,18 +117,32 @@ def different_line(told, wanted):
     return None
 
 
+def different_report(printed, wanted):
+    """How what was printed differs from the lines of a report, of which some in front may be left out, or None."""
+    if printed and not printed.endswith(b"\n"):
+        return "the program's last line has no line feed"
+    lines = printed.decode(errors="replace").splitlines()
+    if wanted[:1] == [".."]:
+        wanted = wanted[1:]
+        lines = lines[-len(wanted) :]
+    return different_line(lines, wanted)
+
+
+def different_bytes(printed, wanted):
+    """How what was printed differs from these bytes, or None."""
+    if printed == wanted:
+        return None
+    same = len(os.path.commonprefix([printed, wanted]))
+    return f"it has {len(wanted)} bytes, and the program prints {len(printed)}, of which the first {same} are the same"
+
+
 def difference(program, example):
     """What isn't as the example says, or None."""
     with tempfile.TemporaryDirectory() as folder:
         ran = subprocess.run([program, *example.words], input=example.script, capture_output=True, cwd=folder)
         dumped = dumped_in(program, folder)
-    if ran.stdout and not ran.stdout.endswith(b"\n"):
-        return "the program's last line has no line feed"
-    lines, wanted = ran.stdout.decode(errors="replace").splitlines(), example.report
-    if wanted[:1] == [".."]:
-        wanted = wanted[1:]
-        lines = lines[-len(wanted) :]
-    found = different_line(lines, wanted)
+    differs = different_bytes if isinstance(example.report, bytes) else different_report
+    found = differs(ran.stdout, example.report)
     if found:
         return found
     if example.status is not None and ran.returncode != example.status:

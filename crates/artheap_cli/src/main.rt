@@ -1,5 +1,5 @@
-//! `artheap`: runs a script over a modelled heap of the Android Runtime, or lists a dump or tells a path in it, from standard input to
-//! standard output.
+//! `artheap`: runs a script over a modelled heap of the Android Runtime, or lists a dump, tells a path in it or converts it,
+//! from standard input to standard output.
 #![tactic(auto)]
 
 use ah_outside::{BufferedSink, FlushingSource, FolderShelf, SharedWriter};
@@ -15,7 +15,7 @@ fn message(status: Status) -> Option<&'static str> {
     match status {
         Status::Ok | Status::Refused | Status::NotDump => None,
         Status::Usage => Some(
-            "usage: artheap run [--regions N] [--time T] | read | path ID | soak START COUNT [--regions N]",
+            "usage: artheap run [--regions N] [--time T] | read | path ID | convert | soak START COUNT [--regions N]",
         ),
         Status::ReadFault => Some("artheap: read fault"),
         Status::WriteFault => Some("artheap: write fault"),

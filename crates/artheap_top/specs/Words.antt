@@ -58,6 +58,11 @@ abbrev pub read_of : List (List ℕ) → Option Job
 read_of [] = Some job.Read
 read_of (word ∷ words) = None
 
+-- a conversion, where no word follows
+abbrev pub convert_of : List (List ℕ) → Option Job
+convert_of [] = Some job.Convert
+convert_of (word ∷ words) = None
+
 -- the number that a digit of base 16 stands for, in lower case
 abbrev pub digit_value : ℕ → Option ℕ
 digit_value digit =
@@ -79,13 +84,15 @@ path_of [] = None
 path_of (word ∷ []) = option_map (λ id. job.Path id) (id_of word)
 path_of (word ∷ more ∷ words) = None
 
--- the job that the words ask for: `run [--regions N] [--time T]`, `read`, `path ID` or `soak START COUNT [--regions N]`
+-- the job that the words ask for: `run [--regions N] [--time T]`, `read`, `path ID`, `convert` or
+-- `soak START COUNT [--regions N]`
 abbrev pub job_of : List (List ℕ) → Option Job
 job_of [] = None
 job_of (word ∷ words) =
     if same_name word (codes "run") then run_job words
     else if same_name word (codes "read") then read_of words
     else if same_name word (codes "path") then path_of words
+    else if same_name word (codes "convert") then convert_of words
     else if same_name word (codes "soak") then soak_job words else None
 
 -- the job is a run
@@ -94,6 +101,7 @@ asks_run None = false
 asks_run (Some (job.Run regions time)) = true
 asks_run (Some job.Read) = false
 asks_run (Some (job.Path id)) = false
+asks_run (Some job.Convert) = false
 asks_run (Some (job.Soak start count regions)) = false
 
 -- the numbers of a job are within their bounds
@@ -101,4 +109,5 @@ abbrev pub IsPossible : Job → Type 0
 IsPossible (job.Run regions time) = (1 ≤ regions) × (regions ≤ most_regions) × (time < 2 ^ 64)
 IsPossible job.Read = Unit {0}
 IsPossible (job.Path id) = Unit {0}
+IsPossible job.Convert = Unit {0}
 IsPossible (job.Soak start count regions) = (start ≤ 2147483647) × (count ≤ 1000000) × (1 ≤ regions) × (regions ≤ most_regions)

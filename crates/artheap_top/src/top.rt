@@ -26,9 +26,11 @@ use std::alloc::Global;
 /// to the shelf, `PROCESS.K.hprof` with the dump and `PROCESS.K.map` with the text of its table of addresses. T is the
 /// time in the headers of dumps, in milliseconds, and 0 if it isn't given. `read` takes a dump of at most as many bytes, and
 /// then puts its listing, or the line that tells its first fault. `path ID` takes a dump likewise, and tells a shortest path
-/// from a root to the object with the identifier of 8 digits of base 16. `soak START COUNT [--regions N]` runs the script that
-/// a generator makes of two numbers, START up to 2,147,483,647 and COUNT up to 1,000,000, and puts a summary. N is the
-/// budget of each process in regions, 1 to 512, and 64 if it isn't given.
+/// from a root to the object with the identifier of 8 digits of base 16. `convert` takes a wide dump likewise, of 1.0.2 or
+/// 1.0.3 with identifiers of 4 or 8 bytes, and puts the dump of 1.0.3 with identifiers of 4 bytes that it is converted to.
+/// `soak START COUNT [--regions N]` runs the script that a generator makes of two numbers, START up to 2,147,483,647 and
+/// COUNT up to 1,000,000, and puts a summary. N is the budget of each process in regions, 1 to 512, and 64 if it isn't
+/// given.
 ///
 /// The machine is new. At the end of a job it stands for the world after the lines that were run. Where memory was wanting
 /// for a line, that line's process may besides have been collected or, by a fork, promoted; where it was wanting before the
@@ -44,7 +46,7 @@ pub fn artheap<S: Source, W: Sink, F: Shelf>(
     requires is_new { StandsFor machine.old empty_world }
     requires no_entry { (F.shelved shelf.old).unfinished ≡ false }
 
-    // What a run, a reading, the telling of a path and a soak leave, status by status.
+    // What a run, a reading, the telling of a path, a conversion and a soak leave, status by status.
     ensures run { (regions time : ℕ) → job_of (map string_bytes words.now) ≡ Some (Job.Run regions time) →
         let old = outside_of (S.left source.old) (S.fault_count source.old) (output_of (W.gained sink.old) (W.fault_count sink.old) (F.shelved shelf.old) (F.fault_count shelf.old) machine.old) in
         let new = outside_of (S.left source.new) (S.fault_count source.new) (output_of (W.gained sink.new) (W.fault_count sink.new) (F.shelved shelf.new) (F.fault_count shelf.new) machine.new) in
@@ -57,6 +59,10 @@ pub fn artheap<S: Source, W: Sink, F: Shelf>(
         let old = streams_of (S.left source.old) (S.fault_count source.old) (W.gained sink.old) (W.fault_count sink.old) in
         let new = streams_of (S.left source.new) (S.fault_count source.new) (W.gained sink.new) (W.fault_count sink.new) in
         (machine.new ≡ machine.old) × EndedRead (Question.Path id) result old new }
+    ensures convert { job_of (map string_bytes words.now) ≡ Some Job.Convert →
+        let old = streams_of (S.left source.old) (S.fault_count source.old) (W.gained sink.old) (W.fault_count sink.old) in
+        let new = streams_of (S.left source.new) (S.fault_count source.new) (W.gained sink.new) (W.fault_count sink.new) in
+        (machine.new ≡ machine.old) × EndedRead Question.Converted result old new }
     ensures soak { (start count regions : ℕ) → job_of (map string_bytes words.now) ≡ Some (Job.Soak start count regions) →
         let old = soak_output (W.gained sink.old) (W.fault_count sink.old) machine.old in
         let new = soak_output (W.gained sink.new) (W.fault_count sink.new) machine.new in
@@ -74,6 +80,8 @@ pub fn artheap<S: Source, W: Sink, F: Shelf>(
     ensures read_complete { job_of (map string_bytes words.now) ≡ Some Job.Read → HasFewLeft (S.left source.old) →
         ¬ FaultRose (S.fault_count source.old) (S.fault_count source.new) → ¬ FaultRose (W.fault_count sink.old) (W.fault_count sink.new) → EndsTold result }
     ensures path_complete { (id : ℕ) → job_of (map string_bytes words.now) ≡ Some (Job.Path id) → HasFewLeft (S.left source.old) →
+        ¬ FaultRose (S.fault_count source.old) (S.fault_count source.new) → ¬ FaultRose (W.fault_count sink.old) (W.fault_count sink.new) → EndsTold result }
+    ensures convert_complete { job_of (map string_bytes words.now) ≡ Some Job.Convert → HasFewLeft (S.left source.old) →
         ¬ FaultRose (S.fault_count source.old) (S.fault_count source.new) → ¬ FaultRose (W.fault_count sink.old) (W.fault_count sink.new) → EndsTold result }
     ensures soak_complete { (start count regions : ℕ) → job_of (map string_bytes words.now) ≡ Some (Job.Soak start count regions) →
         ¬ FaultRose (W.fault_count sink.old) (W.fault_count sink.new) → EndsWell result }
@@ -93,6 +101,7 @@ pub fn artheap<S: Source, W: Sink, F: Shelf>(
         }
         Some(Job::Read) => answer_input(alloc, Question::Listing, source, sink),
         Some(Job::Path { id }) => answer_input(alloc, Question::Path { id }, source, sink),
+        Some(Job::Convert) => answer_input(alloc, Question::Converted, source, sink),
         Some(
             Job::Soak {
                 start,

@@ -1,7 +1,7 @@
 ghost use Rattle.std.specs.Prelude.{◌≡◌, ◌<◌, ◌≤◌, map, string_bytes, IfSome};
 ghost use Rattle.std.specs.Option.{option_copied};
 ghost use Rattle.model_numbers.specs.Numbers.{most_regions};
-ghost use Rattle.artheap_top.specs.Words.{IsPossible, digit_value, id_of, job_of, number_within, option_regions, option_time, path_of, read_of, run_job, run_of, soak_job, soak_of};
+ghost use Rattle.artheap_top.specs.Words.{IsPossible, convert_of, digit_value, id_of, job_of, number_within, option_regions, option_time, path_of, read_of, run_job, run_of, soak_job, soak_of};
 
 use model_numbers::{DEFAULT_REGIONS, MOST_REGIONS};
 use script_lang::{read_count, read_unsigned};
@@ -21,6 +21,8 @@ pub(crate) enum Job {
     Path {
         id: u32,
     },
+    /// A wide dump from the source is read, and the dump that it is converted to is put.
+    Convert,
     /// A script that is generated from two numbers is run, and a summary put.
     Soak {
         start: u32,
@@ -136,6 +138,17 @@ fn path_of(words: &[String]) -> Option<Job>
     }
 }
 
+/// The conversion that is asked for where no word stands behind `convert`.
+fn convert_of(words: &[String]) -> Option<Job>
+    ensures job { result ≡ convert_of (map string_bytes words.now) }
+    ensures possible { IfSome result IsPossible }
+{
+    match words {
+        [] => Some(Job::Convert),
+        _ => None,
+    }
+}
+
 /// The soak that the words behind `soak` ask for.
 fn soak_job(words: &[String]) -> Option<Job>
     ensures job { result ≡ soak_job (map string_bytes words.now) }
@@ -168,6 +181,8 @@ pub(crate) fn job_of(words: &[String]) -> Option<Job>
         read_of(more)
     } else if word.as_bytes() == b"path".as_slice() {
         path_of(more)
+    } else if word.as_bytes() == b"convert".as_slice() {
+        convert_of(more)
     } else if word.as_bytes() == b"soak".as_slice() {
         soak_job(more)
     } else {

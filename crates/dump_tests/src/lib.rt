@@ -1,4 +1,4 @@
-//! Tests of dumps: the front of a dump at each length, bytes that are no dump, a dump's records, listings, paths, the shelf of a
+//! Tests of dumps: the front of a dump at each length, bytes that are no dump, a dump's records, listings, paths, conversions, the shelf of a
 //! run that dumps, and where that stops when its source, its sink or its shelf fails.
 #![tactic(auto)]
 
@@ -18,3 +18,7 @@ mod runs;
 mod tests;
 #[cfg(test)]
 mod wanted;
+#[cfg(test)]
+mod wide;
+#[cfg(test)]
+mod wide_bytes;

@@ -10,7 +10,8 @@ use Rattle.class_layout.specs.Kinds.{next_multiple}
 use Rattle.class_layout.specs.Placing.{IsIn}
 use Rattle.page_tables.specs.declared.address.Addr.{Addr}
 use Rattle.page_tables.specs.declared.address.Window.TheVariants as window
-use Rattle.cow_pages.specs.Memory.{Memory}
+use Rattle.page_tables.specs.Address.{page_of}
+use Rattle.cow_pages.specs.Memory.{HasOneSharer, Memory}
 use Rattle.cow_pages.specs.View.{view_of}
 use Rattle.heap_graph.specs.declared.names.Content.{Content}
 use Rattle.heap_graph.specs.declared.names.Content.TheVariants as content
@@ -28,10 +29,11 @@ use Rattle.heap_graph.specs.Sizes.{is_large, is_too_large, size_in}
 use Rattle.heap_graph.specs.Values.{value_at}
 use Rattle.heap_graph.proofs.Places.{value-fits}
 use Rattle.heap_graph.proofs.Sizes.{size-least, young-packed}
+use Rattle.object_view.specs.declared.names.Slot.{Slot}
 use Rattle.object_view.specs.Seen.{root_address, seen_value, value_in}
 use Rattle.raw_objects.specs.Raws.{raw_size, HoldsRaws, Raw, Raws}
 use Rattle.raw_objects.specs.References.{in_regions, now_at}
-use Rattle.address_table.specs.Computed.{table_of, Homes}
+use Rattle.address_table.specs.Computed.{table_of}
 use Rattle.address_table.proofs.Beside.{all-in, not-too-large, shape-in}
 use Rattle.address_table.proofs.Fitting.{fits}
 use Rattle.region_lists.specs.Rows.{Row}
@@ -51,7 +53,7 @@ use Rattle.live_objects.specs.Live.{addresses}
 use Rattle.live_objects.specs.Reach.{in_large, IsFound, IsHeld}
 use Rattle.object_moves.specs.Copies.{sizes_at, HoldsRegions, IsBesideRegions, PacksAt}
 use Rattle.object_collection.specs.Collects.{AreLarge, AreYoung, CanCollect, HeapState}
-use Rattle.evacuate.specs.Stands.{home_of, raws_of, rows_from, young_homes, KeepsGraph}
+use Rattle.evacuate.specs.Stands.{home_of, homes_of, raws_of, rows_from, young_homes, HasSlotsOut, HoldsHeap, KeepsGraph}
 use Rattle.evacuate.proofs.Members.{all-from, contains-in, in-contains, map-same, map-twice}
 use Rattle.evacuate.proofs.Pages.{large-pages, region-pages}
 use Rattle.evacuate.proofs.Found.{held-one, numbered, object-at, raw-there, target-in, ObjectAt}
@@ -89,12 +91,12 @@ suits-young cs o place.Young e suits = suits
 suits-young cs o place.Large e suits = absurd (true≢false (sym e))
 suits-young cs o place.Promoted e suits = absurd (true≢false (sym e))
 
-module _ (h : HeapState) (m : Memory) (t : ℕ) (homes : Homes) (g : Graph) (k : KeepsGraph h m t homes g) where
+module _ (h : HeapState) (m : Memory) (t : ℕ) (g : Graph) (k : HoldsHeap h m t g) where
   abbrev table : ℕ → ℕ
-  table = table_of homes g
+  table = table_of (homes_of h) g
 
   abbrev raws : Raws
-  raws = raws_of homes g
+  raws = raws_of (homes_of h) g
 
   abbrev in_use : List Row
   in_use = h.regions.in_use
@@ -102,10 +104,10 @@ module _ (h : HeapState) (m : Memory) (t : ℕ) (homes : Homes) (g : Graph) (k :
   filled-is : filled (lists_of h.regions) ≡ in_use
   filled-is = ap (λ (rs : List Row). h.regions.in_use ++ rs) k.stands.no_from ∙ append-nil h.regions.in_use
 
-  raw-at : (a : ℕ) → raws.has a ≡ true → (o : ObjectAt homes g k.formed k.house a) × (raws.raw a ≡ raw_under table o.object)
+  raw-at : (a : ℕ) → raws.has a ≡ true → (o : ObjectAt (homes_of h) g k.formed k.house a) × (raws.raw a ≡ raw_under table o.object)
   raw-at a has =
-      let it = object-at homes g k.formed k.house a has in
-      (it, ap raws.raw (sym it.at_is) ∙ (raw-there homes g k.formed k.house it.object it.is_in).1)
+      let it = object-at (homes_of h) g k.formed k.house a has in
+      (it, ap raws.raw (sym it.at_is) ∙ (raw-there (homes_of h) g k.formed k.house it.object it.is_in).1)
 
   size-is : (a : ℕ) (has : raws.has a ≡ true) → raw_size h.classes raws a ≡ size_of_object g.classes (raw-at a has).0.object
   size-is a has = ap (λ cs. raw_size cs raws a) k.stands.classes ∙ ap (λ (r : Raw). size_in g.classes r.shape) (raw-at a has).1
@@ -133,62 +135,62 @@ module _ (h : HeapState) (m : Memory) (t : ℕ) (homes : Homes) (g : Graph) (k :
       (walk-lies in_use it.before it.more (size_of_object g.classes o) (in_use-filled (lists_of h.regions) k.space) (in_use-apart (lists_of h.regions) k.space)
       (subst (All IsSize) it.sizes_are sizes-all) (subst (Pack in_use) it.sizes_are k.stands.packed.pack))
 
-  beside : (o : Object) (at : Place) (address : ℕ) → Stand homes g k.formed k.house o at address → is_young at ≡ false → IsBesideRegions address (size_of_object g.classes o)
+  beside : (o : Object) (at : Place) (address : ℕ) → Stand (homes_of h) g k.formed k.house o at address → is_young at ≡ false → IsBesideRegions address (size_of_object g.classes o)
   beside o (place.Image spot) address it young = inl (omega (arith, it.0, it.2))
   beside o (place.Zygote spot) address it young = inl (omega (arith, it.0, it.2))
   beside o place.Young address it young = absurd (true≢false young)
   beside o place.Large address (j, it) young = inr (omega (arith, it.3))
   beside o place.Promoted address (j, it) young = inr (omega (arith, it.3))
 
-  held-regions : HoldsRegions h.classes m t (lists_of h.regions) raws
+  pub held-regions : HoldsRegions h.classes m t (lists_of h.regions) raws
   held-regions = record {
     live = k.live;
     sound = k.sound;
     space = k.space;
     pages = λ p is.
-        k.pages.pages window.Regions p is ∙ sym (region-pages homes g k.formed k.house (lists_of h.regions) k.space k.stands.packed p is)
+        k.pages.pages window.Regions p is ∙ sym (region-pages (homes_of h) g k.formed k.house (lists_of h.regions) k.space k.stands.packed p is)
         ∙ ap (list_any (space.holds_page p)) (sym filled-is);
-    alone = k.alone.regions;
+    alone = k.regions;
     holds = subst (λ cs. HoldsRaws cs (view_of m t) raws) (sym k.stands.classes) (graph-raws g.classes (view_of m t) table g.objects k.pages.objects);
     rows = λ a has inside.
         let it = raw-at a has in
         let o : Object = it.0.object in
-        let young : is_young o.place ≡ true = sym (in-regions-is homes g k.formed k.house o it.0.is_in) ∙ ap in_regions it.0.at_is ∙ inside in
+        let young : is_young o.place ≡ true = sym (in-regions-is (homes_of h) g k.formed k.house o it.0.is_in) ∙ ap in_regions it.0.at_is ∙ inside in
         subst (λ rs. IsObjectIn rs a (raw_size h.classes raws a)) (sym filled-is)
         (subst (λ n. IsObjectIn in_use a n) (sym (size-is a has)) (subst (λ b. IsObjectIn in_use b (size_of_object g.classes o)) it.0.at_is (lies o it.0.is_in young)));
     others = λ a has outside.
         let it = raw-at a has in
         let o : Object = it.0.object in
-        let old : is_young o.place ≡ false = sym (in-regions-is homes g k.formed k.house o it.0.is_in) ∙ ap in_regions it.0.at_is ∙ outside in
+        let old : is_young o.place ≡ false = sym (in-regions-is (homes_of h) g k.formed k.house o it.0.is_in) ∙ ap in_regions it.0.at_is ∙ outside in
         subst (λ n. IsBesideRegions a n) (sym (size-is a has))
-        (subst (λ b. IsBesideRegions b (size_of_object g.classes o)) it.0.at_is (beside o o.place (table o.number) (stand homes g k.formed k.house o it.0.is_in) old));
+        (subst (λ b. IsBesideRegions b (size_of_object g.classes o)) it.0.at_is (beside o o.place (table o.number) (stand (homes_of h) g k.formed k.house o it.0.is_in) old));
   }
 
-  sizes-are : young_sizes g ≡ sizes_at h.classes raws (young_homes homes g)
+  pub sizes-are : young_sizes g ≡ sizes_at h.classes raws (young_homes (homes_of h) g)
   sizes-are =
       map-same (size_of_object g.classes) (λ (o : Object). raw_size g.classes raws (table o.number)) (young_objects g)
-      (λ o there. sym (ap (λ (r : Raw). size_in g.classes r.shape) (raw-there homes g k.formed k.house o (in-filter (λ (o : Object). is_young o.place) g.objects o there).0).1))
+      (λ o there. sym (ap (λ (r : Raw). size_in g.classes r.shape) (raw-there (homes_of h) g k.formed k.house o (in-filter (λ (o : Object). is_young o.place) g.objects o there).0).1))
       ∙ sym (map-twice (λ (a : Addr). raw_size g.classes raws a.0) (home_of table) (young_objects g))
-      ∙ ap (λ cs. sizes_at cs raws (young_homes homes g)) (sym k.stands.classes)
+      ∙ ap (λ cs. sizes_at cs raws (young_homes (homes_of h) g)) (sym k.stands.classes)
 
-  are-young : AreYoung h raws (young_homes homes g)
+  pub are-young : AreYoung h raws (young_homes (homes_of h) g)
   are-young = record {
-    packed = subst (λ ss. PacksAt in_use ss (young_homes homes g)) sizes-are k.stands.packed;
+    packed = subst (λ ss. PacksAt in_use ss (young_homes (homes_of h) g)) sizes-are k.stands.packed;
     only = λ a. (
       (λ c.
-          let it = in-map (λ (b : Addr). b.0) (young_homes homes g) a (contains-in (addresses (young_homes homes g)) a c) in
+          let it = in-map (λ (b : Addr). b.0) (young_homes (homes_of h) g) a (contains-in (addresses (young_homes (homes_of h) g)) a c) in
           let from = in-map (home_of table) (young_objects g) it.0 it.1 in
           let o : Object = from.0 in
           let is = in-filter (λ (o : Object). is_young o.place) g.objects o from.1 in
           let at : table o.number ≡ a = ap (λ (b : Addr). b.0) from.2 ∙ it.2 in
           subst (λ n. (raws.has n ≡ true) × (in_regions n ≡ true)) at
-          ((raw-there homes g k.formed k.house o is.0).0, in-regions-is homes g k.formed k.house o is.0 ∙ is.1)),
+          ((raw-there (homes_of h) g k.formed k.house o is.0).0, in-regions-is (homes_of h) g k.formed k.house o is.0 ∙ is.1)),
       (λ it.
-          let n = object-at homes g k.formed k.house a it.0 in
+          let n = object-at (homes_of h) g k.formed k.house a it.0 in
           let o : Object = n.object in
-          let young : is_young o.place ≡ true = sym (in-regions-is homes g k.formed k.house o n.is_in) ∙ ap in_regions n.at_is ∙ it.1 in
-          in-contains (addresses (young_homes homes g)) a (subst (λ b. IsIn b (addresses (young_homes homes g))) n.at_is
-          (map-in (λ (b : Addr). b.0) (young_homes homes g) (home_of table o) (map-in (home_of table) (young_objects g) o (filter-in (λ (o : Object). is_young o.place) g.objects o n.is_in young))))),
+          let young : is_young o.place ≡ true = sym (in-regions-is (homes_of h) g k.formed k.house o n.is_in) ∙ ap in_regions n.at_is ∙ it.1 in
+          in-contains (addresses (young_homes (homes_of h) g)) a (subst (λ b. IsIn b (addresses (young_homes (homes_of h) g))) n.at_is
+          (map-in (λ (b : Addr). b.0) (young_homes (homes_of h) g) (home_of table o) (map-in (home_of table) (young_objects g) o (filter-in (λ (o : Object). is_young o.place) g.objects o n.is_in young))))),
     );
     count = k.stands.objects ∙ sym (length-map (young_objects g) (home_of table));
     no_from = k.stands.no_from;
@@ -198,31 +200,31 @@ module _ (h : HeapState) (m : Memory) (t : ℕ) (homes : Homes) (g : Graph) (k :
   -- LARGE
 
   abbrev rows : List LargeRow
-  rows = rows_from g.classes homes.slots 0 g.objects
+  rows = rows_from g.classes (homes_of h).slots 0 g.objects
 
-  are-large : AreLarge h m t raws
+  pub are-large : AreLarge h m t raws
   are-large = record {
-    rows = subst AreRows (sym k.stands.rows) (are-rows homes g k.formed k.house);
+    rows = subst AreRows (sym k.stands.rows) (are-rows (homes_of h) g k.formed k.house);
     pages = λ p is.
-        k.pages.pages window.Large p is ∙ sym (large-pages homes g k.formed k.house (lists_of h.regions) k.space k.stands.packed p is)
+        k.pages.pages window.Large p is ∙ sym (large-pages (homes_of h) g k.formed k.house (lists_of h.regions) k.space k.stands.packed p is)
         ∙ ap (list_any (large.holds_page p)) (sym k.stands.rows);
     unmarked = all-from (λ (row : LargeRow). row.marked ≡ false) h.rows (λ row there.
-        let it = object-there g.classes homes 0 g.next 0 0 g.objects k.formed.numbers row (subst (IsIn row) k.stands.rows there) in
+        let it = object-there g.classes (homes_of h) 0 g.next 0 0 g.objects k.formed.numbers row (subst (IsIn row) k.stands.rows there) in
         sym (ap (λ (r : LargeRow). r.marked) it.row_is));
-    alone = k.alone.large;
+    alone = k.large;
     has = λ row c.
-        let it = object-there g.classes homes 0 g.next 0 0 g.objects k.formed.numbers row (subst (IsIn row) k.stands.rows (contains-in h.rows row c)) in
+        let it = object-there g.classes (homes_of h) 0 g.next 0 0 g.objects k.formed.numbers row (subst (IsIn row) k.stands.rows (contains-in h.rows row c)) in
         let o : Object = it.object in
         let at : table o.number ≡ slot_base row.slot = it.at_is ∙ ap (λ (r : LargeRow). slot_base r.slot) it.row_is in
-        let raw = raw-there homes g k.formed k.house o it.is_in in (
+        let raw = raw-there (homes_of h) g k.formed k.house o it.is_in in (
           subst (λ a. raws.has a ≡ true) at raw.0,
           ap (λ cs. raw_size cs raws (slot_base row.slot)) k.stands.classes ∙ ap (λ a. raw_size g.classes raws a) (sym at) ∙ ap (λ (r : Raw). size_in g.classes r.shape) raw.1
               ∙ ap (λ (r : LargeRow). next_multiple 8 r.bytes) it.row_is,
         );
     only = λ a has inside.
-        let it = object-at homes g k.formed k.house a has in
-        let slot : has_slot it.object.place ≡ true = sym (in-large-is homes g k.formed k.house it.object it.is_in) ∙ ap in_large it.at_is ∙ inside in
-        let row = row-at homes g k.formed k.house it.object it.is_in slot in
+        let it = object-at (homes_of h) g k.formed k.house a has in
+        let slot : has_slot it.object.place ≡ true = sym (in-large-is (homes_of h) g k.formed k.house it.object it.is_in) ∙ ap in_large it.at_is ∙ inside in
+        let row = row-at (homes_of h) g k.formed k.house it.object it.is_in slot in
         ap (λ rs. is_some (row_at rs a)) k.stands.rows ∙ ap (λ b. is_some (row_at rows b)) (sym it.at_is) ∙ ap is_some row.1;
   }
 
@@ -240,8 +242,8 @@ module _ (h : HeapState) (m : Memory) (t : ℕ) (homes : Homes) (g : Graph) (k :
       by : (x : Held) → r.holds ≡ x → IsFound raws (root_address table x)
       by held.Null e = found-null
       by (held.Object n) e =
-          let it = numbered homes g k.formed k.house n (k.formed.closed.roots n (held-one (map (λ r. r.holds) g.roots) n (subst (λ (x : Held). IsIn x (map (λ r. r.holds) g.roots)) e (map-in (λ r. r.holds) g.roots r there)))) in
-          subst (λ j. IsFound raws (table j)) it.2 (found-there (table it.0.number) (raw-there homes g k.formed k.house it.0 it.1).0)
+          let it = numbered (homes_of h) g k.formed k.house n (k.formed.closed.roots n (held-one (map (λ r. r.holds) g.roots) n (subst (λ (x : Held). IsIn x (map (λ r. r.holds) g.roots)) e (map-in (λ r. r.holds) g.roots r there)))) in
+          subst (λ j. IsFound raws (table j)) it.2 (found-there (table it.0.number) (raw-there (homes_of h) g k.formed k.house it.0 it.1).0)
 
   held-there : (o : Object) (p : FieldAt) → IsIn o g.objects → IsIn p (places_of g.classes o.shape) → p.kind ≡ Ref → IsHeld raws (value_in table o p)
   held-there o p there within kind = by (value_at o.slots p) refl (subst (λ x. FitsKind x (value_at o.slots p)) kind (value-fits g o p k.formed there within))
@@ -250,28 +252,35 @@ module _ (h : HeapState) (m : Memory) (t : ℕ) (homes : Homes) (g : Graph) (k :
       by (content.Number z) e fit = absurd (true≢false (sym fit))
       by content.Null e fit = record { address = 0; is = refl; below = omega arith; found = found-null }
       by (content.Object n) e fit =
-          let it = target-in homes g k.formed k.house o p n there e in
+          let it = target-in (homes_of h) g k.formed k.house o p n there e in
           record {
             address = table n;
             is = refl;
-            below = (fits homes g k.formed k.house).below n;
-            found = subst (λ j. IsFound raws (table j)) it.2 (found-there (table it.0.number) (raw-there homes g k.formed k.house it.0 it.1).0);
+            below = (fits (homes_of h) g k.formed k.house).below n;
+            found = subst (λ j. IsFound raws (table j)) it.2 (found-there (table it.0.number) (raw-there (homes_of h) g k.formed k.house it.0 it.1).0);
           }
 
-  pub can : CanCollect h m t (raws_of homes g)
-  can = record {
+  targets-held : (a : ℕ) (p : FieldAt) → raws.has a ≡ true → IsIn p (places_of h.classes (raws.raw a).shape) → p.kind ≡ Ref → IsHeld raws ((raws.raw a).values p)
+  targets-held a p has within kind =
+      let it = raw-at a has in
+      let o : Object = it.0.object in
+      let there : IsIn p (places_of g.classes o.shape) =
+      subst (λ (r : Raw). IsIn p (places_of g.classes r.shape)) it.1 (subst (λ cs. IsIn p (places_of cs (raws.raw a).shape)) k.stands.classes within) in
+      subst (IsHeld raws) (sym (ap (λ (r : Raw). r.values p) it.1)) (held-there o p it.0.is_in there kind)
+
+  -- what a collection stands on, with slots
+  pub with-slots : HasSlotsOut h (raws_of (homes_of h) g) → ((slot : Slot) → IsIn slot h.slots → HasOneSharer m t (page_of slot.at.0)) → CanCollect h m t (raws_of (homes_of h) g)
+  with-slots out alone = record {
     held = held-regions;
-    young = (young_homes homes g, are-young);
+    young = (young_homes (homes_of h) g, are-young);
     unmoved = λ a has inside. ap (λ (r : Raw). now_at r.header) (raw-at a has).1;
     large = are-large;
-    slots = record { exact = k.out.exact; once = k.out.once; alone = k.alone.slots };
+    slots = record { exact = out.exact; once = out.once; alone = alone };
     roots = λ a c.
         let it = in-map (λ (r : Root). root_address table r.holds) g.roots a (subst (IsIn a) k.stands.roots (contains-in (addresses h.roots) a c)) in
         subst (IsFound raws) it.2 (root-found it.0 it.1);
-    targets = λ a p has within kind.
-        let it = raw-at a has in
-        let o : Object = it.0.object in
-        let there : IsIn p (places_of g.classes o.shape) =
-        subst (λ (r : Raw). IsIn p (places_of g.classes r.shape)) it.1 (subst (λ cs. IsIn p (places_of cs (raws.raw a).shape)) k.stands.classes within) in
-        subst (IsHeld raws) (sym (ap (λ (r : Raw). r.values p) it.1)) (held-there o p it.0.is_in there kind);
+    targets = targets-held;
   }
+
+pub can : (h : HeapState) (m : Memory) (t : ℕ) (g : Graph) → KeepsGraph h m t g → CanCollect h m t (raws_of (homes_of h) g)
+can h m t g k = with-slots h m t g k.heap k.out k.alone

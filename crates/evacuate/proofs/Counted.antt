@@ -11,9 +11,9 @@ use Rattle.heap_graph.specs.Paths.{numbers}
 use Rattle.heap_graph.specs.Reach.{is_among, reached}
 use Rattle.large_objects.specs.declared.rows.LargeRow.{LargeRow}
 use Rattle.large_objects.specs.Rows.{waits}
-use Rattle.address_table.specs.Computed.{large_behind, Homes}
+use Rattle.address_table.specs.Computed.{large_behind}
 use Rattle.object_collection.specs.Collects.{HeapState}
-use Rattle.evacuate.specs.Stands.{rows_from, with_row, StandsFor}
+use Rattle.evacuate.specs.Stands.{homes_of, rows_from, with_row, StandsFor}
 
 abbrev is_loose : Bool → Object → Bool
 is_loose seal o = not (is_immune seal o.place)
@@ -36,13 +36,13 @@ count-rows cs slots k (o ∷ os) = by o.place refl (λ n. count-rows cs slots n 
     by place.Large is rest = let one : ◌≡◌ {A = ℕ} (cond (is_loose true o) 1 0) 1 = ap (λ (p : Place). cond (not (is_immune true p)) 1 0) is in omega (arith, rest (k + 1), count-cons (is_loose true) o os, one)
     by place.Promoted is rest = let one : ◌≡◌ {A = ℕ} (cond (is_loose true o) 1 0) 0 = ap (λ (p : Place). cond (not (is_immune true p)) 1 0) is in omega (arith, rest (k + 1), count-cons (is_loose true) o os, one)
 
-pub counted : (h : HeapState) (g : Graph) (homes : Homes) → g.sealed ≡ true → StandsFor h g homes → h.regions.objects + length (filter waits h.rows) ≡ loose_count g
-counted h g homes is_sealed stands =
+pub counted : (h : HeapState) (g : Graph) → g.sealed ≡ true → StandsFor h g → h.regions.objects + length (filter waits h.rows) ≡ loose_count g
+counted h g is_sealed stands =
     omega (
       arith,
       stands.objects,
       ap (λ (rows : List LargeRow). length (filter waits rows)) stands.rows,
-      count-rows g.classes homes.slots 0 g.objects,
+      count-rows g.classes (homes_of h).slots 0 g.objects,
       ap (λ b. count_by (is_loose b) g.objects) is_sealed,
     )
 

@@ -36,7 +36,7 @@ use Rattle.graph_pages.specs.Collected.{keeps}
 use Rattle.graph_pages.proofs.Lists.{in-filter, in-map}
 use Rattle.object_moves.specs.Copies.{sizes_at, PacksAt}
 use Rattle.object_collection.specs.Collects.{HeapState, IsCollected, IsReached}
-use Rattle.evacuate.specs.Stands.{home_of, homes_in, raws_of, rows_from, young_homes, KeepsGraph}
+use Rattle.evacuate.specs.Stands.{home_of, homes_in, homes_of, raws_of, rows_from, young_homes, KeepsGraph}
 use Rattle.evacuate.proofs.Members.{all-from, in-contains, map-twice, same-addresses}
 use Rattle.evacuate.proofs.Packed.{by-count, by-there, row_by, rows-are-by, rows-by-are, rows-kept, rows_by, slot_in, young-table}
 use Rattle.evacuate.proofs.Reach.{reached-same}
@@ -71,8 +71,8 @@ slot-back place.Young a is p = absurd (true≢false (sym is))
 slot-back place.Large a is p = omega (arith, p.2)
 slot-back place.Promoted a is p = omega (arith, p.2)
 
-module _ (h : HeapState) (old new : Memory) (t : ℕ) (homes : Homes) (g : Graph) (regions : Space) (rows : List LargeRow) (roots : List Addr) (k : KeepsGraph h old t homes g)
-    (c : IsCollected h new t (raws_of homes g) regions rows roots) where
+module _ (h : HeapState) (old new : Memory) (t : ℕ) (g : Graph) (regions : Space) (rows : List LargeRow) (roots : List Addr) (k : KeepsGraph h old t g)
+    (c : IsCollected h new t (raws_of (homes_of h) g) regions rows roots) where
   abbrev pub left : Graph
   left = collect g
 
@@ -80,7 +80,7 @@ module _ (h : HeapState) (old new : Memory) (t : ℕ) (homes : Homes) (g : Graph
   next_homes = homes_in regions.in_use rows
 
   abbrev pub table : ℕ → ℕ
-  table = table_of homes g
+  table = table_of (homes_of h) g
 
   abbrev pub next : ℕ → ℕ
   next = table_of (homes_in regions.in_use rows) (collect g)
@@ -89,16 +89,16 @@ module _ (h : HeapState) (old new : Memory) (t : ℕ) (homes : Homes) (g : Graph
   kept = numbers (filter (keeps g) g.objects)
 
   pub formed : IsFormed (collect g)
-  formed = collect_formed g k.is_sealed k.formed
+  formed = collect_formed g k.heap.is_sealed k.heap.formed
 
   -- YOUNG
 
-  pub young-is : c.young ≡ map (home_of (table_of homes g)) (filter (keeps g) (young_objects g))
-  young-is = young-are h old t homes g k c.young c.leads.listed
+  pub young-is : c.young ≡ map (home_of (table_of (homes_of h) g)) (filter (keeps g) (young_objects g))
+  young-is = young-are h old t g k c.young c.leads.listed
 
-  pub sizes-is : sizes_at h.classes (raws_of homes g) c.young ≡ young_sizes (collect g)
+  pub sizes-is : sizes_at h.classes (raws_of (homes_of h) g) c.young ≡ young_sizes (collect g)
   sizes-is =
-      ap (λ cs. sizes_at cs (raws_of homes g) c.young) k.stands.classes ∙ ap (sizes_at g.classes (raws_of homes g)) young-is ∙ sizes-collected h old t homes g k
+      ap (λ cs. sizes_at cs (raws_of (homes_of h) g) c.young) k.heap.stands.classes ∙ ap (sizes_at g.classes (raws_of (homes_of h) g)) young-is ∙ sizes-collected h old t g k
 
   -- the new addresses are those of the collected graph's young objects
   pub moved-is : c.moved ≡ young_homes (homes_in regions.in_use rows) (collect g)
@@ -108,34 +108,34 @@ module _ (h : HeapState) (old new : Memory) (t : ℕ) (homes : Homes) (g : Graph
       ∙ sym (young-table next_homes g.classes 0 left.next 0 0 left.objects formed.numbers) ∙ sym (map-twice (λ (a : Addr). a.0) (home_of next) (young_objects left)))
 
   pub packed : PacksAt regions.in_use (young_sizes (collect g)) (young_homes (homes_in regions.in_use rows) (collect g))
-  packed = subst (λ ss. PacksAt regions.in_use ss (young_homes next_homes left)) sizes-is (subst (λ ats. PacksAt regions.in_use (sizes_at h.classes (raws_of homes g) c.young) ats) moved-is c.packed)
+  packed = subst (λ ss. PacksAt regions.in_use ss (young_homes next_homes left)) sizes-is (subst (λ ats. PacksAt regions.in_use (sizes_at h.classes (raws_of (homes_of h) g) c.young) ats) moved-is c.packed)
 
   -- LARGE
 
   old-rows : h.rows ≡ rows_by g.classes table g.objects
-  old-rows = k.stands.rows ∙ rows-are-by homes g.classes table 0 g.next 0 0 g.objects k.formed.numbers (λ o there. refl)
+  old-rows = k.heap.stands.rows ∙ rows-are-by (homes_of h) g.classes table 0 g.next 0 0 g.objects k.heap.formed.numbers (λ o there. refl)
 
   pub old-are : AreRows h.rows
-  old-are = subst AreRows (sym k.stands.rows) (are-rows homes g k.formed k.house)
+  old-are = subst AreRows (sym k.heap.stands.rows) (are-rows (homes_of h) g k.heap.formed k.heap.house)
 
   -- a row stays where its object is kept
   stays-is : (o : Object) → IsIn o g.objects → has_slot o.place ≡ true → c.rows_left.stays (row_by g.classes table o (is_immune true o.place)) ≡ keeps g o
   stays-is o there is =
       let row : LargeRow = row_by g.classes table o (is_immune true o.place) in
       let there_row : Contains h.rows row = in-contains h.rows row (subst (IsIn row) (sym old-rows) (by-there g.classes table g.objects o there is)) in
-      let back : slot_base (slot_in (table o.number)) ≡ table o.number = slot-back o.place (table o.number) is ((fits homes g k.formed k.house).placed o there) in
-      let seal : is_immune g.sealed o.place ≡ is_immune true o.place = ap (λ b. is_immune b o.place) k.is_sealed in
+      let back : slot_base (slot_in (table o.number)) ≡ table o.number = slot-back o.place (table o.number) is ((fits (homes_of h) g k.heap.formed k.heap.house).placed o there) in
+      let seal : is_immune g.sealed o.place ≡ is_immune true o.place = ap (λ b. is_immune b o.place) k.heap.is_sealed in
       same-bool _ _
       (λ e. elim ((c.rows_left.test row there_row).0 e) [
         | inl promoted ↦ or_left _ _ (seal ∙ promoted)
-        | inr r ↦ or_right (is_immune g.sealed o.place) _ ((reached-same h old t homes g k o there).1 (subst (IsReached h (raws_of homes g)) back r)).0
+        | inr r ↦ or_right (is_immune g.sealed o.place) _ ((reached-same h old t g k o there).1 (subst (IsReached h (raws_of (homes_of h) g)) back r)).0
       ])
       (λ e. (c.rows_left.test row there_row).1 (elim (cases_Bool (is_immune g.sealed o.place)) [
         | inl immune ↦ inl (sym seal ∙ immune)
-        | inr free ↦ inr (subst (IsReached h (raws_of homes g)) (sym back) ((reached-same h old t homes g k o there).0 (sym (ap (λ b. b || is_among (reached g) o.number) free) ∙ e, free)))
+        | inr free ↦ inr (subst (IsReached h (raws_of (homes_of h) g)) (sym back) ((reached-same h old t g k o there).0 (sym (ap (λ b. b || is_among (reached g) o.number) free) ∙ e, free)))
       ]))
 
-  pub rows-by-is : rows ≡ rows_by g.classes (table_of homes g) (collect g).objects
+  pub rows-by-is : rows ≡ rows_by g.classes (table_of (homes_of h) g) (collect g).objects
   rows-by-is = c.rows_left.rows_are ∙ ap (filter c.rows_left.stays) old-rows ∙ rows-kept g.classes table c.rows_left.stays (keeps g) kept g.objects stays-is
 
   -- the rows are those of the collected graph
@@ -143,14 +143,14 @@ module _ (h : HeapState) (old new : Memory) (t : ℕ) (homes : Homes) (g : Graph
   rows-is =
       rows-by-is ∙ sym (rows-by-are g.classes table [] left.objects) ∙ ap (λ rs. rows_from g.classes (slots_of rs) 0 left.objects) (sym rows-by-is)
 
-  -- there are homes for all
+  -- there are (homes_of h) for all
   pub housed : HouseAll (homes_in regions.in_use rows) (collect g)
   housed = record {
     regions = numbers-from (2 * g.budget) (map (λ (row : Row). row.region) regions.in_use)
         (λ i d below.
         let all = all-left (λ n. n < regions.count) (map (λ (row : Row). row.region) regions.in_use) (map (λ (row : Row). row.region) regions.from)
         (all-left (λ n. n < regions.count) (map (λ (row : Row). row.region) regions.in_use ++ map (λ (row : Row). row.region) regions.from) regions.free c.held.space.lists.within) in
-        omega (arith, all i d below, c.count, k.stands.count))
+        omega (arith, all i d below, c.count, k.heap.stands.count))
         (in_use-apart (lists_of regions) c.held.space);
     slots = numbers-from 512 (slots_of rows)
         (all-from (λ n. n < 512) (slots_of rows) (λ n there.
@@ -160,7 +160,7 @@ module _ (h : HeapState) (old new : Memory) (t : ℕ) (homes : Homes) (g : Graph
         (subst (λ rs. IsDistinct nat_eq (slots_of rs)) (sym c.rows_left.rows_are) (distinct-filter c.rows_left.stays h.rows old-are.apart));
     for_young =
         let pack = c.packed.pack.used in
-        let is : parts_for region_bytes (end_from 0 (sizes_at h.classes (raws_of homes g) c.young)) ≡ used left = ap (λ ss. parts_for region_bytes (end_from 0 ss)) sizes-is in
+        let is : parts_for region_bytes (end_from 0 (sizes_at h.classes (raws_of (homes_of h) g) c.young)) ≡ used left = ap (λ ss. parts_for region_bytes (end_from 0 ss)) sizes-is in
         omega (arith, pack, is, length-map regions.in_use (λ (row : Row). row.region));
     for_large = omega (arith, by-count g.classes table 0 left.objects, ap length rows-by-is, length-map rows (λ (row : LargeRow). row.slot));
   }

@@ -29,14 +29,14 @@ use Rattle.object_view.specs.declared.names.Slot.{Slot}
 use Rattle.object_view.specs.Seen.{root_address, seen_value, value_in}
 use Rattle.object_view.proofs.Laid.{ref-kind}
 use Rattle.raw_objects.specs.Raws.{Raw, Raws}
-use Rattle.address_table.specs.Computed.{table_of, Homes}
+use Rattle.address_table.specs.Computed.{table_of}
 use Rattle.address_table.proofs.Fitting.{fits}
 use Rattle.graph_pages.specs.Holds.{raw_under}
 use Rattle.graph_pages.proofs.Lists.{any-to, filter-in, in-filter, in-map, map-in}
 use Rattle.live_objects.specs.Live.{addresses}
 use Rattle.live_objects.specs.Reach.{is_mortal, is_node, is_strong, starts_of, Holds, Path, Reached}
 use Rattle.object_collection.specs.Collects.{HeapState, IsReached, LeadsOut}
-use Rattle.evacuate.specs.Stands.{raws_of, KeepsGraph}
+use Rattle.evacuate.specs.Stands.{homes_of, raws_of, KeepsGraph}
 use Rattle.evacuate.proofs.Found.{held-one, null-not, numbered, object-at, raw-there, target}
 use Rattle.evacuate.proofs.Members.{contains-in, in-contains}
 use Rattle.evacuate.proofs.Stand.{mortal-is}
@@ -74,33 +74,33 @@ not-true : (b : Bool) → not b ≡ false → b ≡ true
 not-true true e = refl
 not-true false e = absurd (true≢false e)
 
-module _ (h : HeapState) (m : Memory) (t : ℕ) (homes : Homes) (g : Graph) (keeps : KeepsGraph h m t homes g) where
+module _ (h : HeapState) (m : Memory) (t : ℕ) (g : Graph) (keeps : KeepsGraph h m t g) where
   abbrev table : ℕ → ℕ
-  table = table_of homes g
+  table = table_of (homes_of h) g
 
   abbrev raws : Raws
-  raws = raws_of homes g
+  raws = raws_of (homes_of h) g
 
   -- an object is mortal where it isn't immune
-  pub mortal : (o : Object) → IsIn o g.objects → is_mortal h.rows (table_of homes g o.number) ≡ not (is_immune g.sealed o.place)
+  pub mortal : (o : Object) → IsIn o g.objects → is_mortal h.rows (table_of (homes_of h) g o.number) ≡ not (is_immune g.sealed o.place)
   mortal o there =
-      ap (λ rows. is_mortal rows (table o.number)) keeps.stands.rows ∙ mortal-is homes g keeps.formed keeps.house o there
-      ∙ ap (λ b. not (is_immune b o.place)) (sym keeps.is_sealed)
+      ap (λ rows. is_mortal rows (table o.number)) keeps.heap.stands.rows ∙ mortal-is (homes_of h) g keeps.heap.formed keeps.heap.house o there
+      ∙ ap (λ b. not (is_immune b o.place)) (sym keeps.heap.is_sealed)
 
-  pub is-node : (o : Object) → IsIn o g.objects → is_immune g.sealed o.place ≡ false → is_node h.rows (raws_of homes g) (table_of homes g o.number) ≡ true
-  is-node o there free = and_from _ _ (raw-there homes g keeps.formed keeps.house o there).0 (mortal o there ∙ ap not free)
+  pub is-node : (o : Object) → IsIn o g.objects → is_immune g.sealed o.place ≡ false → is_node h.rows (raws_of (homes_of h) g) (table_of (homes_of h) g o.number) ≡ true
+  is-node o there free = and_from _ _ (raw-there (homes_of h) g keeps.heap.formed keeps.heap.house o there).0 (mortal o there ∙ ap not free)
 
   -- an object that isn't immune
   pub record NodeAt (a : ℕ) : Type 0 where
     pub object : Object
     pub is_in : IsIn object g.objects
-    pub at_is : table_of homes g object.number ≡ a
+    pub at_is : table_of (homes_of h) g object.number ≡ a
     pub free : is_immune g.sealed object.place ≡ false
 
-  pub node-at : (a : ℕ) → is_node h.rows (raws_of homes g) a ≡ true → NodeAt a
+  pub node-at : (a : ℕ) → is_node h.rows (raws_of (homes_of h) g) a ≡ true → NodeAt a
   node-at a node =
       let parts = and_parts (raws.has a) (is_mortal h.rows a) node in
-      let it = object-at homes g keeps.formed keeps.house a parts.0 in
+      let it = object-at (homes_of h) g keeps.heap.formed keeps.heap.house a parts.0 in
       record {
         object = it.object;
         is_in = it.is_in;
@@ -112,22 +112,22 @@ module _ (h : HeapState) (m : Memory) (t : ℕ) (homes : Homes) (g : Graph) (kee
   strong-place : (o : Object) (n : ℕ) → IsIn o g.objects → (strong : HoldsStrongly o n) → IsIn strong.0.at (places_of g.classes o.shape) × (strong.0.at.kind ≡ Ref) × (value_in table o strong.0.at ≡ pos (table n))
   strong-place o n there strong =
       let s : Stored = strong.0 in
-      let within : IsIn s.at (places_of g.classes o.shape) = slot-place g.classes o.shape s.at (stored-slot g o s keeps.formed there strong.1) in
-      let is : value_at o.slots s.at ≡ content.Object n = value-stored g.classes o.shape o.slots s (object-in g.classes g.objects o keeps.formed.objects there).1 strong.1 ∙ strong.3 in
-      (within, ref-kind s.at.kind (subst (λ (c : Content). FitsKind s.at.kind c) is (value-fits g o s.at keeps.formed there within)), ap (seen_value table) is)
+      let within : IsIn s.at (places_of g.classes o.shape) = slot-place g.classes o.shape s.at (stored-slot g o s keeps.heap.formed there strong.1) in
+      let is : value_at o.slots s.at ≡ content.Object n = value-stored g.classes o.shape o.slots s (object-in g.classes g.objects o keeps.heap.formed.objects there).1 strong.1 ∙ strong.3 in
+      (within, ref-kind s.at.kind (subst (λ (c : Content). FitsKind s.at.kind c) is (value-fits g o s.at keeps.heap.formed there within)), ap (seen_value table) is)
 
   holds-strongly : (o : Object) (p : FieldAt) (n : ℕ) → IsIn o g.objects → IsIn p (places_of g.classes o.shape) → p.weak ≡ false → value_at o.slots p ≡ content.Object n → HoldsStrongly o n
   holds-strongly o p n there within strong is =
       let it = stored-there o.slots p n is in
       let s : Stored = it.0 in
-      let same : s.at ≡ p = one-place g.classes o.shape s.at p (slot-place g.classes o.shape s.at (stored-slot g o s keeps.formed there it.1)) within it.2 in
+      let same : s.at ≡ p = one-place g.classes o.shape s.at p (slot-place g.classes o.shape s.at (stored-slot g o s keeps.heap.formed there it.1)) within it.2 in
       (s, it.1, ap (λ (q : FieldAt). q.weak) same ∙ strong, it.3)
 
   -- one object holds another
   holds-from : (o q : Object) → IsIn o g.objects → IsIn q g.objects → is_immune g.sealed q.place ≡ false → HoldsStrongly o q.number → Holds g.classes h.rows raws (table o.number) (table q.number)
   holds-from o q o_in q_in free strong =
       let it = strong-place o q.number o_in strong in
-      let raw = (raw-there homes g keeps.formed keeps.house o o_in).1 in
+      let raw = (raw-there (homes_of h) g keeps.heap.formed keeps.heap.house o o_in).1 in
       record {
         place = strong.0.at;
         is_in = subst (λ (r : Raw). IsIn strong.0.at (places_of g.classes r.shape)) (sym raw) it.0;
@@ -139,12 +139,12 @@ module _ (h : HeapState) (m : Memory) (t : ℕ) (homes : Homes) (g : Graph) (kee
 
   holds-to : (o : Object) (b : ℕ) → IsIn o g.objects → Holds g.classes h.rows raws (table o.number) b → (n : NodeAt b) × HoldsStrongly o n.object.number
   holds-to o b there it =
-      let raw = (raw-there homes g keeps.formed keeps.house o there).1 in
+      let raw = (raw-there (homes_of h) g keeps.heap.formed keeps.heap.house o there).1 in
       let within : IsIn it.place (places_of g.classes o.shape) = subst (λ (r : Raw). IsIn it.place (places_of g.classes r.shape)) raw it.is_in in
       let node = node-at b it.node in
       let has : raws.has b ≡ true = (and_parts (raws.has b) (is_mortal h.rows b) it.node).0 in
-      let to = target homes g keeps.formed keeps.house o it.place b there within it.kind_is (sym (ap (λ (r : Raw). r.values it.place) raw) ∙ it.target_is) has in
-      let same : to.object ≡ node.object = (fits homes g keeps.formed keeps.house).apart to.object node.object to.is_in node.is_in (to.at_is ∙ sym node.at_is) in
+      let to = target (homes_of h) g keeps.heap.formed keeps.heap.house o it.place b there within it.kind_is (sym (ap (λ (r : Raw). r.values it.place) raw) ∙ it.target_is) has in
+      let same : to.object ≡ node.object = (fits (homes_of h) g keeps.heap.formed keeps.heap.house).apart to.object node.object to.is_in node.is_in (to.at_is ∙ sym node.at_is) in
       (node, subst (λ (q : Object). HoldsStrongly o q.number) same (holds-strongly o it.place to.object.number there within it.strong to.value_is))
 
   -- STARTS
@@ -156,20 +156,20 @@ module _ (h : HeapState) (m : Memory) (t : ℕ) (homes : Homes) (g : Graph) (kee
   root-target r b there is has = by r.holds refl is
     where
       by : (x : Held) → r.holds ≡ x → root_address table x ≡ b → (q : Object) × IsIn q g.objects × (table q.number ≡ b) × (r.holds ≡ held.Object q.number)
-      by held.Null e is = absurd (null-not homes g keeps.formed keeps.house (subst (λ c. raws.has c ≡ true) (sym is) has))
+      by held.Null e is = absurd (null-not (homes_of h) g keeps.heap.formed keeps.heap.house (subst (λ c. raws.has c ≡ true) (sym is) has))
       by (held.Object n) e is =
-          let it = numbered homes g keeps.formed keeps.house n (keeps.formed.closed.roots n (held-one (map (λ r. r.holds) g.roots) n (subst (λ (x : Held). IsIn x (map (λ r. r.holds) g.roots)) e (map-in (λ r. r.holds) g.roots r there)))) in
+          let it = numbered (homes_of h) g keeps.heap.formed keeps.heap.house n (keeps.heap.formed.closed.roots n (held-one (map (λ r. r.holds) g.roots) n (subst (λ (x : Held). IsIn x (map (λ r. r.holds) g.roots)) e (map-in (λ r. r.holds) g.roots r there)))) in
           (it.0, it.1, ap table it.2 ∙ is, e ∙ ap (λ k. held.Object k) (sym it.2))
 
   start-to : (b : ℕ) → Contains starts b → is_node h.rows raws b ≡ true → (n : NodeAt b) × IsStart g n.object.number
   start-to b c node =
       let n = node-at b node in
       let has : raws.has b ≡ true = (and_parts (raws.has b) (is_mortal h.rows b) node).0 in
-      let one : (q : Object) → IsIn q g.objects → table q.number ≡ b → q ≡ n.object = λ q q_in at. (fits homes g keeps.formed keeps.house).apart q n.object q_in n.is_in (at ∙ sym n.at_is) in (
+      let one : (q : Object) → IsIn q g.objects → table q.number ≡ b → q ≡ n.object = λ q q_in at. (fits (homes_of h) g keeps.heap.formed keeps.heap.house).apart q n.object q_in n.is_in (at ∙ sym n.at_is) in (
         n,
         elim (Contains-append_cases (addresses h.roots) (map (λ (slot : Slot). slot.target.0) (filter is_strong h.slots)) b c) [
           | inl rooted ↦
-              let it = in-map (λ r. root_address table r.holds) g.roots b (subst (λ ns. IsIn b ns) keeps.stands.roots (contains-in (addresses h.roots) b rooted)) in
+              let it = in-map (λ r. root_address table r.holds) g.roots b (subst (λ ns. IsIn b ns) keeps.heap.stands.roots (contains-in (addresses h.roots) b rooted)) in
               let to = root-target it.0 b it.1 it.2 has in
               inl (it.0, it.1, to.3 ∙ ap (λ (q : Object). held.Object q.number) (one to.0 to.1 to.2))
           | inr led ↦
@@ -177,14 +177,14 @@ module _ (h : HeapState) (m : Memory) (t : ℕ) (homes : Homes) (g : Graph) (kee
               let slot : Slot = it.0 in
               let there = in-filter is_strong h.slots slot it.1 in
               let out = (keeps.out.exact slot).0 there.0 in
-              let from = object-at homes g keeps.formed keeps.house out.object out.has in
+              let from = object-at (homes_of h) g keeps.heap.formed keeps.heap.house out.object out.has in
               let o : Object = from.object in
-              let raw : raws.raw out.object ≡ raw_under table o = ap raws.raw (sym from.at_is) ∙ (raw-there homes g keeps.formed keeps.house o from.is_in).1 in
+              let raw : raws.raw out.object ≡ raw_under table o = ap raws.raw (sym from.at_is) ∙ (raw-there (homes_of h) g keeps.heap.formed keeps.heap.house o from.is_in).1 in
               let within : IsIn out.place (places_of g.classes o.shape) =
-              subst (λ (r : Raw). IsIn out.place (places_of g.classes r.shape)) raw (subst (λ cs. IsIn out.place (places_of cs (raws.raw out.object).shape)) keeps.stands.classes out.is_in) in
+              subst (λ (r : Raw). IsIn out.place (places_of g.classes r.shape)) raw (subst (λ cs. IsIn out.place (places_of cs (raws.raw out.object).shape)) keeps.heap.stands.classes out.is_in) in
               let immune : is_immune g.sealed o.place ≡ true = not-true _ (sym (mortal o from.is_in) ∙ ap (is_mortal h.rows) from.at_is ∙ out.immune) in
               let value : value_in table o out.place ≡ pos b = sym (ap (λ (r : Raw). r.values out.place) raw) ∙ sym out.target_is ∙ ap (λ k. pos k) it.2 in
-              let to = target homes g keeps.formed keeps.house o out.place b from.is_in within out.kind_is value has in
+              let to = target (homes_of h) g keeps.heap.formed keeps.heap.house o out.place b from.is_in within out.kind_is value has in
               let weak : out.place.weak ≡ false = sym out.weak_is ∙ not-flips slot.weak there.1 in
               inr (o, from.is_in, immune, subst (λ (q : Object). HoldsStrongly o q.number) (one to.object to.is_in to.at_is) (holds-strongly o out.place to.object.number from.is_in within weak to.value_is))
         ],
@@ -193,17 +193,17 @@ module _ (h : HeapState) (m : Memory) (t : ℕ) (homes : Homes) (g : Graph) (kee
   start-from : (q : Object) → IsIn q g.objects → is_immune g.sealed q.place ≡ false → IsStart g q.number → Contains starts (table q.number)
   start-from q there free (inl (r, r_in, is)) =
       Contains-append_left (addresses h.roots) _ (table q.number) (in-contains (addresses h.roots) (table q.number)
-      (subst (λ ns. IsIn (table q.number) ns) (sym keeps.stands.roots) (subst (λ (x : Held). IsIn (root_address table x) (map (λ r. root_address table r.holds) g.roots)) is (map-in (λ r. root_address table r.holds) g.roots r r_in))))
+      (subst (λ ns. IsIn (table q.number) ns) (sym keeps.heap.stands.roots) (subst (λ (x : Held). IsIn (root_address table x) (map (λ r. root_address table r.holds) g.roots)) is (map-in (λ r. root_address table r.holds) g.roots r r_in))))
   start-from q there free (inr (o, o_in, immune, strong)) =
       let it = strong-place o q.number o_in strong in
-      let raw = (raw-there homes g keeps.formed keeps.house o o_in).1 in
+      let raw = (raw-there (homes_of h) g keeps.heap.formed keeps.heap.house o o_in).1 in
       let slot : Slot = record { at = record { 0 = table o.number + strong.0.at.offset }; target = record { 0 = table q.number }; weak = false } in
       let out : LeadsOut h raws slot = record {
         object = table o.number;
         place = strong.0.at;
-        has = (raw-there homes g keeps.formed keeps.house o o_in).0;
+        has = (raw-there (homes_of h) g keeps.heap.formed keeps.heap.house o o_in).0;
         immune = mortal o o_in ∙ ap not immune;
-        is_in = subst (λ cs. IsIn strong.0.at (places_of cs (raws.raw (table o.number)).shape)) (sym keeps.stands.classes) (subst (λ (r : Raw). IsIn strong.0.at (places_of g.classes r.shape)) (sym raw) it.0);
+        is_in = subst (λ cs. IsIn strong.0.at (places_of cs (raws.raw (table o.number)).shape)) (sym keeps.heap.stands.classes) (subst (λ (r : Raw). IsIn strong.0.at (places_of g.classes r.shape)) (sym raw) it.0);
         kind_is = it.1;
         at_is = refl;
         target_is = sym (ap (λ (r : Raw). r.values strong.0.at) raw ∙ it.2);
@@ -232,16 +232,16 @@ module _ (h : HeapState) (m : Memory) (t : ℕ) (homes : Homes) (g : Graph) (kee
 
   -- an object is reached, and isn't immune, exactly where it is reached among the raw ones
   pub reached-same : (o : Object) → IsIn o g.objects
-      → ((is_among (reached g) o.number ≡ true) × (is_immune g.sealed o.place ≡ false)) ↔ IsReached h (raws_of homes g) (table_of homes g o.number)
+      → ((is_among (reached g) o.number ≡ true) × (is_immune g.sealed o.place ≡ false)) ↔ IsReached h (raws_of (homes_of h) g) (table_of (homes_of h) g o.number)
   reached-same o there = (
     (λ it.
         let path = ((reached-is g o.number).0 it.0).1 in
-        subst (λ cs. Reached cs h.rows raws starts (table o.number)) (sym keeps.stands.classes) (path-from path.0 o there it.1 path.1)),
+        subst (λ cs. Reached cs h.rows raws starts (table o.number)) (sym keeps.heap.stands.classes) (path-from path.0 o there it.1 path.1)),
     (λ r.
-        let p : Reached g.classes h.rows raws starts (table o.number) = subst (λ cs. Reached cs h.rows raws starts (table o.number)) keeps.stands.classes r in
+        let p : Reached g.classes h.rows raws starts (table o.number) = subst (λ cs. Reached cs h.rows raws starts (table o.number)) keeps.heap.stands.classes r in
         let it = path-to (table o.number) p.0 p.1 in
         let n : NodeAt (table o.number) = it.0 in
-        let same : n.object ≡ o = (fits homes g keeps.formed keeps.house).apart n.object o n.is_in there n.at_is in (
+        let same : n.object ≡ o = (fits (homes_of h) g keeps.heap.formed keeps.heap.house).apart n.object o n.is_in there n.at_is in (
           (reached-is g o.number).1 ((o, there, refl), (it.1.0, subst (λ (q : Object). IsPathTo g it.1.0 q.number) same it.1.1)),
           ap (λ (q : Object). is_immune g.sealed q.place) (sym same) ∙ n.free,
         )),

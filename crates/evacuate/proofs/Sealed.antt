@@ -19,7 +19,7 @@ use Rattle.heap_graph.specs.Sizes.{parts_for}
 use Rattle.heap_graph.specs.Values.{value_at}
 use Rattle.heap_graph.proofs.Places.{value-fits}
 use Rattle.object_view.specs.declared.names.Slot.{Slot}
-use Rattle.object_view.specs.Seen.{seen_value, value_in}
+use Rattle.object_view.specs.Seen.{root_address, seen_value, value_in}
 use Rattle.raw_objects.specs.Raws.{Raw}
 use Rattle.raw_objects.specs.References.{in_regions}
 use Rattle.address_table.specs.Computed.{large_behind, large_count, table_of, AreNumbers, HouseAll}
@@ -33,7 +33,8 @@ use Rattle.graph_pages.specs.Holds.{raw_under}
 use Rattle.live_objects.specs.Reach.{is_mortal}
 use Rattle.object_moves.specs.Copies.{PacksAt}
 use Rattle.object_collection.specs.Collects.{HeapState, LeadsOut}
-use Rattle.evacuate.specs.Stands.{home_of, no_homes, raws_of, rows_from, with_row, young_homes, HasFramesAlone, HasSealed, HasSlotsOut, KeepsGraph, StandsFor}
+use Rattle.graph_pages.specs.Pages.{PagesHold}
+use Rattle.evacuate.specs.Stands.{home_of, homes_in, homes_of, no_homes, raws_of, rows_from, with_row, young_homes, HasSealed, HasSlotsOut, KeepsGraph, StandsFor}
 use Rattle.evacuate.proofs.Found.{object-at, raw-there, target-in}
 use Rattle.evacuate.proofs.Stand.{in-regions-is}
 
@@ -63,14 +64,14 @@ module _ (cs : List Class) where
       by place.Large e rest = absurd (true≢false (sym e))
       by place.Promoted e rest = absurd (true≢false (sym e))
 
-no-numbers : (most : ℕ) → AreNumbers most []
+pub no-numbers : (most : ℕ) → AreNumbers most []
 no-numbers most = ((λ i below. absurd (omega (arith, below))), (λ i j below _ same. absurd (omega (arith, below))))
 
-no-slots : IsDistinct nat_eq []
+pub no-slots : IsDistinct nat_eq []
 unfolding IsDistinct
 no-slots = tt
 
-packs-none : PacksAt [] [] []
+pub packs-none : PacksAt [] [] []
 packs-none = record {
   pack = record { end = refl; used = refl; fills = refl };
   places = refl;
@@ -93,19 +94,22 @@ module _ (h : HeapState) (m : Memory) (t : ℕ) (g : Graph) (s : HasSealed h m t
     for_large = omega (arith, (no-rows g.classes 0 g.objects s.in_image).1);
   }
 
-  stands : StandsFor h g no_homes
+  -- with no region in use and no row nothing stands in several places
+  nothing-stands : homes_of h ≡ no_homes
+  nothing-stands = ap (λ (rows : List Row). homes_in rows h.rows) s.none_in_use.0 ∙ ap (λ (rows : List LargeRow). homes_in [] rows) s.none_large
+
+  stands : StandsFor h g
   stands = record {
     classes = s.classes;
-    regions = ap (map (λ (row : Row). row.region)) s.none_in_use.0;
-    packed =
-        subst (λ rows. PacksAt rows (young_sizes g) (young_homes no_homes g)) (sym s.none_in_use.0)
-        (subst (λ ss. PacksAt [] ss (young_homes no_homes g)) (sym no-sizes) (subst (λ os. PacksAt [] [] (map (home_of (table_of no_homes g)) os)) (sym no-young) packs-none));
+    packed = subst (λ homes. PacksAt h.regions.in_use (young_sizes g) (young_homes homes g)) (sym nothing-stands)
+        (subst (λ rows. PacksAt rows (young_sizes g) (young_homes no_homes g)) (sym s.none_in_use.0)
+        (subst (λ ss. PacksAt [] ss (young_homes no_homes g)) (sym no-sizes) (subst (λ os. PacksAt [] [] (map (home_of (table_of no_homes g)) os)) (sym no-young) packs-none)));
     objects = s.none_in_use.2 ∙ sym (ap length no-young);
     no_from = s.none_in_use.1;
     half = omega (arith, ap length s.none_in_use.0);
     count = s.count;
-    rows = s.none_large ∙ sym (no-rows g.classes 0 g.objects s.in_image).0;
-    roots = s.roots;
+    rows = s.none_large ∙ sym (no-rows g.classes 0 g.objects s.in_image).0 ∙ ap (λ homes. rows_from g.classes homes.slots 0 g.objects) (sym nothing-stands);
+    roots = s.roots ∙ ap (λ homes. map (λ r. root_address (table_of homes g) r.holds) g.roots) (sym nothing-stands);
   }
 
   -- what an object of the image holds is in the image, or null
@@ -139,23 +143,20 @@ module _ (h : HeapState) (m : Memory) (t : ℕ) (g : Graph) (s : HasSealed h m t
   none-filled : filled (lists_of h.regions) ≡ []
   none-filled = ap (λ (rows : List Row). rows ++ h.regions.from) s.none_in_use.0 ∙ s.none_in_use.1
 
-  alone : HasFramesAlone h m t
-  alone = record {
-    regions = λ p held. absurd (true≢false (sym held ∙ ap (list_any (space.holds_page p)) none-filled));
-    large = λ p held. absurd (true≢false (sym held ∙ ap (λ (rows : List LargeRow). list_any (large.holds_page p) (filter waits rows)) s.none_large));
-    slots = λ slot there. absurd (subst (λ (ss : List Slot). IsIn slot ss) s.none_out there);
-  }
-
-  pub sealed-kept : KeepsGraph h m t no_homes g
+  pub sealed-kept : KeepsGraph h m t g
   sealed-kept = record {
-    formed = s.formed;
-    is_sealed = s.is_sealed;
-    house = house;
-    pages = s.pages;
-    stands = stands;
-    out = out;
-    space = s.space;
-    sound = s.sound;
-    live = s.live;
-    alone = alone;
+    heap = record {
+      formed = s.formed;
+      is_sealed = s.is_sealed;
+      house = subst (λ homes. HouseAll homes g) (sym nothing-stands) house;
+      pages = subst (λ homes. PagesHold m t homes g) (sym nothing-stands) s.pages;
+      stands = stands;
+      space = s.space;
+      sound = s.sound;
+      live = s.live;
+      regions = λ p held. absurd (true≢false (sym held ∙ ap (list_any (space.holds_page p)) none-filled));
+      large = λ p held. absurd (true≢false (sym held ∙ ap (λ (rows : List LargeRow). list_any (large.holds_page p) (filter waits rows)) s.none_large));
+    };
+    out = subst (λ homes. HasSlotsOut h (raws_of homes g)) (sym nothing-stands) out;
+    alone = λ slot there. absurd (subst (λ (ss : List Slot). IsIn slot ss) s.none_out there);
   }

@@ -21,7 +21,7 @@ use Rattle.raw_objects.specs.Raws.{raw_size, Raw}
 use Rattle.raw_objects.specs.References.{in_regions}
 use Rattle.region_space.specs.Packed.{address_in}
 use Rattle.region_space.specs.Space.{lists_of}
-use Rattle.address_table.specs.Computed.{table_of, Homes}
+use Rattle.address_table.specs.Computed.{table_of}
 use Rattle.graph_pages.specs.Collected.{keeps}
 use Rattle.graph_pages.proofs.Lists.{filter-in, in-filter, in-map, map-in}
 use Rattle.live_objects.specs.Live.{addresses, AreRising, ListsYoung}
@@ -30,7 +30,7 @@ use Rattle.live_objects.proofs.YoungLemmas.{one-list}
 use Rattle.live_objects.specs.Reach.{starts_of}
 use Rattle.object_moves.specs.Copies.{sizes_at}
 use Rattle.object_collection.specs.Collects.{HeapState, IsReached}
-use Rattle.evacuate.specs.Stands.{home_of, raws_of, KeepsGraph}
+use Rattle.evacuate.specs.Stands.{home_of, homes_of, raws_of, KeepsGraph}
 use Rattle.evacuate.proofs.Members.{all-from, contains-in, filter-swap, in-contains, map-same, map-twice}
 use Rattle.evacuate.proofs.Found.{raw-there}
 use Rattle.evacuate.proofs.Reach.{node-at, reached-same, NodeAt}
@@ -92,9 +92,9 @@ module _ (cs : List Class) (keep : Object → Bool) where
       by true head rest = ap (λ n. n ∷ map f (filter keep os)) head ∙ ap (λ ns. g p ∷ ns) rest
       by false head rest = rest
 
-module _ (h : HeapState) (m : Memory) (t : ℕ) (homes : Homes) (g : Graph) (k : KeepsGraph h m t homes g) where
+module _ (h : HeapState) (m : Memory) (t : ℕ) (g : Graph) (k : KeepsGraph h m t g) where
   abbrev table : ℕ → ℕ
-  table = table_of homes g
+  table = table_of (homes_of h) g
 
   -- the young objects that are kept
   abbrev pub kept_young : List Object
@@ -132,18 +132,18 @@ module _ (h : HeapState) (m : Memory) (t : ℕ) (homes : Homes) (g : Graph) (k :
       filter-in (keeps g) (young_objects g) o (filter-in (λ o. is_young o.place) g.objects o there young) (or_right (is_immune g.sealed o.place) (is_among (reached g) o.number) among)
 
   -- they are the reached objects of the regions in their order
-  pub young-listed : ListsYoung h.regions.in_use (IsReached h (raws_of homes g)) (map (home_of (table_of homes g)) (filter (keeps g) (young_objects g)))
+  pub young-listed : ListsYoung h.regions.in_use (IsReached h (raws_of (homes_of h) g)) (map (home_of (table_of (homes_of h) g)) (filter (keeps g) (young_objects g)))
   young-listed = record {
     places = sub (keeps g) (young_objects g) (places_from 0 (young_sizes g));
     rising = sub-rising g.classes (keeps g) 0 0 (young_objects g) (omega arith);
     within = all-from (λ p. p < region_bytes * length h.regions.in_use) (sub (keeps g) (young_objects g) (places_from 0 (young_sizes g))) (λ p there.
         let below = sub-within g.classes (keeps g) 0 (young_objects g) p there in
-        let used : length h.regions.in_use ≡ parts_for region_bytes (end_from 0 (young_sizes g)) = k.stands.packed.pack.used in
+        let used : length h.regions.in_use ≡ parts_for region_bytes (end_from 0 (young_sizes g)) = k.heap.stands.packed.pack.used in
         omega (arith, below, used));
     stand =
         map-twice (λ (a : Addr). a.0) (home_of table) kept_young
         ∙ sub-stand g.classes (keeps g) (λ o. table o.number) (address_in h.regions.in_use) (young_objects g) (places_from 0 (young_sizes g))
-        (sym (map-twice (λ (a : Addr). a.0) (home_of table) (young_objects g)) ∙ k.stands.packed.places);
+        (sym (map-twice (λ (a : Addr). a.0) (home_of table) (young_objects g)) ∙ k.heap.stands.packed.places);
     only = λ a. (
       (λ c.
           let it = in-map (λ (b : Addr). b.0) (map (home_of table) kept_young) a (contains-in _ a c) in
@@ -151,29 +151,29 @@ module _ (h : HeapState) (m : Memory) (t : ℕ) (homes : Homes) (g : Graph) (k :
           let o : Object = from.0 in
           let is = kept-there o from.1 in
           let at : table o.number ≡ a = ap (λ (b : Addr). b.0) from.2 ∙ it.2 in
-          subst (λ n. (in_regions n ≡ true) × IsReached h (raws_of homes g) n) at
-          (in-regions-is homes g k.formed k.house o is.is_in ∙ is.young, (reached-same h m t homes g k o is.is_in).0 (is.among, is.free))),
+          subst (λ n. (in_regions n ≡ true) × IsReached h (raws_of (homes_of h) g) n) at
+          (in-regions-is (homes_of h) g k.heap.formed k.heap.house o is.is_in ∙ is.young, (reached-same h m t g k o is.is_in).0 (is.among, is.free))),
       (λ it.
-          let n : NodeAt h m t homes g k a = node-at h m t homes g k a (reached-node h.classes h.rows (raws_of homes g) (starts_of h.roots h.slots) a it.1) in
+          let n : NodeAt h m t g k a = node-at h m t g k a (reached-node h.classes h.rows (raws_of (homes_of h) g) (starts_of h.roots h.slots) a it.1) in
           let o : Object = n.object in
-          let r = (reached-same h m t homes g k o n.is_in).1 (subst (λ b. IsReached h (raws_of homes g) b) (sym n.at_is) it.1) in
-          let young : is_young o.place ≡ true = sym (in-regions-is homes g k.formed k.house o n.is_in) ∙ subst (λ b. in_regions b ≡ true) (sym n.at_is) it.0 in
+          let r = (reached-same h m t g k o n.is_in).1 (subst (λ b. IsReached h (raws_of (homes_of h) g) b) (sym n.at_is) it.1) in
+          let young : is_young o.place ≡ true = sym (in-regions-is (homes_of h) g k.heap.formed k.heap.house o n.is_in) ∙ subst (λ b. in_regions b ≡ true) (sym n.at_is) it.0 in
           in-contains _ a (subst (λ b. IsIn b (addresses (map (home_of table) kept_young))) n.at_is
           (map-in (λ (b : Addr). b.0) (map (home_of table) kept_young) (home_of table o) (map-in (home_of table) kept_young o (there-kept o n.is_in young r.0))))),
     );
   }
 
   -- so each list of these is theirs
-  pub young-are : (young : List Addr) → ListsYoung h.regions.in_use (IsReached h (raws_of homes g)) young → young ≡ map (home_of (table_of homes g)) (filter (keeps g) (young_objects g))
-  young-are young listed = one-list (lists_of h.regions) (IsReached h (raws_of homes g)) young (map (home_of table) kept_young) k.space listed young-listed
+  pub young-are : (young : List Addr) → ListsYoung h.regions.in_use (IsReached h (raws_of (homes_of h) g)) young → young ≡ map (home_of (table_of (homes_of h) g)) (filter (keeps g) (young_objects g))
+  young-are young listed = one-list (lists_of h.regions) (IsReached h (raws_of (homes_of h) g)) young (map (home_of table) kept_young) k.heap.space listed young-listed
 
   -- they are the young objects of the collected graph, but for cleared references
   pub young-collected : young_objects (collect g) ≡ map (cleared (numbers (filter (keeps g) g.objects))) (filter (keeps g) (young_objects g))
   young-collected = filter-swap (λ (o : Object). is_young o.place) (keeps g) (cleared (numbers (filter (keeps g) g.objects))) (λ o. refl) g.objects
 
-  pub sizes-collected : sizes_at g.classes (raws_of homes g) (map (home_of (table_of homes g)) (filter (keeps g) (young_objects g))) ≡ young_sizes (collect g)
+  pub sizes-collected : sizes_at g.classes (raws_of (homes_of h) g) (map (home_of (table_of (homes_of h) g)) (filter (keeps g) (young_objects g))) ≡ young_sizes (collect g)
   sizes-collected =
-      map-twice (λ (a : Addr). raw_size g.classes (raws_of homes g) a.0) (home_of table) kept_young
-      ∙ map-same _ (size_of_object g.classes) kept_young (λ o there. ap (λ (r : Raw). size_in g.classes r.shape) (raw-there homes g k.formed k.house o (kept-there o there).is_in).1)
+      map-twice (λ (a : Addr). raw_size g.classes (raws_of (homes_of h) g) a.0) (home_of table) kept_young
+      ∙ map-same _ (size_of_object g.classes) kept_young (λ o there. ap (λ (r : Raw). size_in g.classes r.shape) (raw-there (homes_of h) g k.heap.formed k.heap.house o (kept-there o there).is_in).1)
       ∙ sym (map-twice (size_of_object g.classes) (cleared (numbers (filter (keeps g) g.objects))) kept_young)
       ∙ sym (ap (map (size_of_object g.classes)) young-collected)

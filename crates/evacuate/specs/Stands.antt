@@ -5,7 +5,7 @@ use Rattle.class_layout.specs.ClassList.{Class}
 use Rattle.class_layout.specs.Placing.{IsIn}
 use Rattle.page_tables.specs.declared.address.Addr.{Addr}
 use Rattle.page_tables.specs.Address.{page_of}
-use Rattle.cow_pages.specs.Memory.{is_live, HasOneSharer, IsSound, Memory}
+use Rattle.cow_pages.specs.Memory.{is_live, is_mapped, HasOneSharer, IsSound, Memory}
 use Rattle.heap_graph.specs.declared.names.Place.{Place}
 use Rattle.heap_graph.specs.declared.names.Place.TheVariants.{Image, Zygote, Young, Large, Promoted}
 use Rattle.heap_graph.specs.Formed.{is_in_image, IsFormed}
@@ -57,46 +57,56 @@ young_homes homes g = map (home_of (table_of homes g)) (young_objects g)
 abbrev pub raws_of : Homes → Graph → Raws
 raws_of homes g = raws_under (table_of homes g) g.objects
 
+-- where a process keeps what may stand in several places: by its regions in use and its rows
+abbrev pub homes_in : List Row → List LargeRow → Homes
+homes_in in_use rows = record { regions = map (λ (row : Row). row.region) in_use; slots = map (λ (row : LargeRow). row.slot) rows }
+
+abbrev pub homes_of : HeapState → Homes
+homes_of h = homes_in h.regions.in_use h.rows
+
 -- the state that a process keeps for a sealed graph, besides the slots of immune objects: the regions hold the young objects,
 -- packed, at most half of them in use; a row stands for each large object, none is marked; and the roots hold addresses
-pub record StandsFor (h : HeapState) (g : Graph) (homes : Homes) : Type 0 where
+pub record StandsFor (h : HeapState) (g : Graph) : Type 0 where
   pub classes : h.classes ≡ g.classes
-  pub regions : map (λ (row : Row). row.region) h.regions.in_use ≡ homes.regions
-  pub packed : PacksAt h.regions.in_use (young_sizes g) (young_homes homes g)
+  pub packed : PacksAt h.regions.in_use (young_sizes g) (young_homes (homes_of h) g)
   pub objects : h.regions.objects ≡ length (young_objects g)
   pub no_from : h.regions.from ≡ []
   pub half : 2 * length h.regions.in_use ≤ h.regions.count
   pub count : h.regions.count ≡ 2 * g.budget
-  pub rows : h.rows ≡ rows_from g.classes homes.slots 0 g.objects
-  pub roots : addresses h.roots ≡ map (λ r. root_address (table_of homes g) r.holds) g.roots
+  pub rows : h.rows ≡ rows_from g.classes (homes_of h).slots 0 g.objects
+  pub roots : addresses h.roots ≡ map (λ r. root_address (table_of (homes_of h) g) r.holds) g.roots
+
+-- a process holds a sealed graph in its pages, and keeps its state, whichever slots of immune objects it has; the pages of the
+-- regions, and of large objects that aren't promoted, have their frames alone
+pub record HoldsHeap (h : HeapState) (m : Memory) (t : ℕ) (g : Graph) : Type 0 where
+  pub formed : IsFormed g
+  pub is_sealed : g.sealed ≡ true
+  pub house : HouseAll (homes_of h) g
+  pub pages : PagesHold m t (homes_of h) g
+  pub stands : StandsFor h g
+  pub regions : space.AreAlone m t (filled (lists_of h.regions))
+  pub large : large.AreAlone m t (filter waits h.rows)
+  pub space : IsSpace (lists_of h.regions)
+  pub sound : IsSound m
+  pub live : IsTrue (is_live m t)
 
 -- the slots are exactly the references of immune objects that lead to objects which aren't immune, each once
 pub record HasSlotsOut (h : HeapState) (raws : Raws) : Type 0 where
   pub exact : (slot : Slot) → IsIn slot h.slots ↔ LeadsOut h raws slot
   pub once : IsDistinct nat_eq (map (λ (slot : Slot). slot.at.0) h.slots)
 
--- the pages of the regions, of the large objects that aren't promoted and of the slots have their frames alone
-pub record HasFramesAlone (h : HeapState) (m : Memory) (t : ℕ) : Type 0 where
-  pub regions : space.AreAlone m t (filled (lists_of h.regions))
-  pub large : large.AreAlone m t (filter waits h.rows)
-  pub slots : (slot : Slot) → IsIn slot h.slots → HasOneSharer m t (page_of slot.at.0)
+-- besides its heap a process has these slots, and their pages have their frames alone: a collection can be made
+pub record KeepsGraph (h : HeapState) (m : Memory) (t : ℕ) (g : Graph) : Type 0 where
+  pub heap : HoldsHeap h m t g
+  pub out : HasSlotsOut h (raws_of (homes_of h) g)
+  pub alone : (slot : Slot) → IsIn slot h.slots → HasOneSharer m t (page_of slot.at.0)
 
--- a process holds a sealed graph in its pages, and keeps its state
-pub record KeepsGraph (h : HeapState) (m : Memory) (t : ℕ) (homes : Homes) (g : Graph) : Type 0 where
-  pub formed : IsFormed g
-  pub is_sealed : g.sealed ≡ true
-  pub house : HouseAll homes g
-  pub pages : PagesHold m t homes g
-  pub stands : StandsFor h g homes
-  pub out : HasSlotsOut h (raws_of homes g)
-  pub space : IsSpace (lists_of h.regions)
-  pub sound : IsSound m
-  pub live : IsTrue (is_live m t)
-  pub alone : HasFramesAlone h m t
-
--- where a process keeps what may stand in several places, by its regions in use and its rows
-abbrev pub homes_in : List Row → List LargeRow → Homes
-homes_in in_use rows = record { regions = map (λ (row : Row). row.region) in_use; slots = map (λ (row : LargeRow). row.slot) rows }
+-- where the slot stands one of these stood before, and its page is mapped
+pub record StoodBefore (slots : List Slot) (m : Memory) (t : ℕ) (slot : Slot) : Type 0 where
+  pub before : Slot
+  pub is_in : IsIn before slots
+  pub at_is : before.at.0 ≡ slot.at.0
+  pub mapped : IsTrue (is_mapped m t (page_of slot.at.0))
 
 -- no homes: nothing stands in regions or slots
 abbrev pub no_homes : Homes

@@ -6,10 +6,8 @@ ghost use Rattle.heap_graph.specs.Collection.{collect, freed_count, loose_count}
 ghost use Rattle.heap_graph.specs.Graph.{Graph};
 ghost use Rattle.object_view.specs.declared.names.Slot.{Slot};
 ghost use Rattle.object_view.specs.Seen.{RoseBy};
-ghost use Rattle.address_table.specs.Computed.{Homes, HouseAll};
-ghost use Rattle.graph_pages.specs.Pages.{PagesHold};
-ghost use Rattle.object_collection.specs.Collects.{state_of, LeavesPages};
-ghost use Rattle.evacuate.specs.Stands.{homes_in, raws_of, HasSlotsOut, KeepsGraph, StandsFor};
+ghost use Rattle.object_collection.specs.Collects.{state_of, LeadsOut, LeavesPages};
+ghost use Rattle.evacuate.specs.Stands.{homes_in, raws_of, HasSlotsOut, HoldsHeap, KeepsGraph, StoodBefore};
 
 use class_layout::Classes;
 use cow_pages::{Addr, Frames, TableNo};
@@ -24,9 +22,9 @@ use std::alloc::{AllocError, Global};
 /// promoted have their frames alone.
 ///
 /// Afterwards the pages hold the collected graph, the regions its young objects, packed by rising number, and the roots the
-/// addresses of their objects. It tells how many objects that aren't immune it kept, and how many it freed. All memory is
-/// taken before the first write, so after `AllocError` nothing has changed. It makes at most four reads for each slot that
-/// are counted.
+/// addresses of their objects. A slot that leads out then was one of the given ones. It tells how many objects that aren't
+/// immune it kept, and how many it freed. All memory is taken before the first write, so after `AllocError` nothing has
+/// changed. It makes at most four reads for each slot that are counted.
 pub fn collect(
     alloc: Global,
     frames: &mut Frames,
@@ -37,17 +35,15 @@ pub fn collect(
     regions: &mut Regions,
     larges: &mut Larges,
 ) -> Result<Kept, AllocError>
-    requires { (homes : Homes) × (g : Graph) × KeepsGraph (state_of classes.now regions.old larges.old roots.old slots.now) frames.old t.0 homes g }
-    ensures held { OnOk result ((homes : Homes) (g : Graph) → KeepsGraph (state_of classes.now regions.old larges.old roots.old slots.now) frames.old t.0 homes g
-        → PagesHold frames.new t.0 (homes_in regions.new.in_use larges.new) (collect g)) }
-    ensures housed { OnOk result ((homes : Homes) (g : Graph) → KeepsGraph (state_of classes.now regions.old larges.old roots.old slots.now) frames.old t.0 homes g
-        → HouseAll (homes_in regions.new.in_use larges.new) (collect g)) }
-    ensures stands { OnOk result ((homes : Homes) (g : Graph) (further : List Slot) → KeepsGraph (state_of classes.now regions.old larges.old roots.old slots.now) frames.old t.0 homes g
-        → StandsFor (state_of classes.now regions.new larges.new roots.new further) (collect g) (homes_in regions.new.in_use larges.new)) }
-    ensures keeps { OnOk result ((homes : Homes) (g : Graph) (further : List Slot) → KeepsGraph (state_of classes.now regions.old larges.old roots.old slots.now) frames.old t.0 homes g
+    requires { (g : Graph) × KeepsGraph (state_of classes.now regions.old larges.old roots.old slots.now) frames.old t.0 g }
+    ensures held { OnOk result ((g : Graph) (further : List Slot) → KeepsGraph (state_of classes.now regions.old larges.old roots.old slots.now) frames.old t.0 g
+        → HoldsHeap (state_of classes.now regions.new larges.new roots.new further) frames.new t.0 (collect g)) }
+    ensures slots { OnOk result ((g : Graph) (further : List Slot) → KeepsGraph (state_of classes.now regions.old larges.old roots.old slots.now) frames.old t.0 g
+        → (slot : Slot) → LeadsOut (state_of classes.now regions.new larges.new roots.new further) (raws_of (homes_in regions.new.in_use larges.new) (collect g)) slot → StoodBefore slots.now frames.new t.0 slot) }
+    ensures kept { OnOk result ((g : Graph) (further : List Slot) → KeepsGraph (state_of classes.now regions.old larges.old roots.old slots.now) frames.old t.0 g
         → HasSlotsOut (state_of classes.now regions.new larges.new roots.new further) (raws_of (homes_in regions.new.in_use larges.new) (collect g))
-        → KeepsGraph (state_of classes.now regions.new larges.new roots.new further) frames.new t.0 (homes_in regions.new.in_use larges.new) (collect g)) }
-    ensures counts { IfOk result (λ it. (homes : Homes) (g : Graph) → KeepsGraph (state_of classes.now regions.old larges.old roots.old slots.now) frames.old t.0 homes g
+        → KeepsGraph (state_of classes.now regions.new larges.new roots.new further) frames.new t.0 (collect g)) }
+    ensures counts { IfOk result (λ it. (g : Graph) → KeepsGraph (state_of classes.now regions.old larges.old roots.old slots.now) frames.old t.0 g
         → (it.kept ≡ loose_count (collect g)) × (it.freed ≡ freed_count g (collect g))) }
     ensures pages { OnOk result (LeavesPages (state_of classes.now regions.old larges.old roots.old slots.now) frames.old frames.new t.0) }
     ensures only { OnlyTable frames.old frames.new t.0 }

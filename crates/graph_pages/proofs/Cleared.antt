@@ -6,13 +6,14 @@ use Rattle.object_view.proofs.Spans.{frame-same}
 use Rattle.raw_objects.specs.Keeps.{Keeps}
 use Rattle.raw_objects.proofs.Kept.{page-mapped}
 use Rattle.weak_refs.specs.Weak.{is_page_of, ClearsSlots}
-use Rattle.weak_refs.proofs.Clears.{alone-stays, mapped-after}
+use Rattle.weak_refs.proofs.Clears.{alone-stays, frame-stays, mapped-after}
 
 -- the pages with one of the slots may have changed
 pub cleared-kept : (old new : Memory) (t : ℕ) (slots : List ℕ) → ClearsSlots old new t slots → Keeps old new t (is_page_of slots)
 cleared-kept old new t slots c = record {
   mapped = same;
   alone = alone-stays old new t slots c;
+  frames = λ q is one. frame-stays old new t slots c q one;
   written = λ q is. elim (cases_Bool (is_page_of slots q)) [ inl among ↦ c.written q among | inr beside ↦ ap flag_of (c.others t q (inr beside)) ∙ is ];
   others = c.others;
   live = c.live;

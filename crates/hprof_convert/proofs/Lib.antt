@@ -6,3 +6,10 @@ pub mod SizeLemmas
 pub mod MissingLemmas
 pub mod Renaming
 pub mod Apart
+pub mod Narrowing
+pub mod Shorter
+pub mod WellFormed
+pub mod Numbers
+pub mod Parts
+pub mod Layouts
+pub mod ReadValues

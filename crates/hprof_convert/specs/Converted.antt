@@ -30,6 +30,10 @@ renamed_static w names s = (rename names s.0, s.1, renamed_value w names (s.1, s
 abbrev pub renamed_field : List ℕ → ℕ × ℕ → ℕ × ℕ
 renamed_field names f = (rename names f.0, f.1)
 
+-- a class, renamed
+abbrev pub renamed_class : List ℕ → Class → Class
+renamed_class names c = record { id = rename names c.id; parent = rename names c.parent; codes = c.codes }
+
 -- the bytes of an instance with this layout, renamed value by value; as they are where it has no layout
 abbrev pub renamed_bytes : ℕ → List ℕ → Option (List ℕ) → List ℕ → List ℕ
 renamed_bytes w names None bytes = bytes

@@ -5,3 +5,5 @@ pub mod Layouts
 pub mod Identifiers
 pub mod Converted
 pub mod Missing
+pub mod Examples
+pub mod Instances

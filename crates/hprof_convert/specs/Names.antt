@@ -1,5 +1,5 @@
 -- Identifiers, and the numbers that they get.
-use Rattle.std.specs.Prelude.{ℕ, ◌+◌, nat_eq, List, [], ◌∷◌, ◌++◌, position, Option, None, Some, is_some, if◌then◌else◌}
+use Rattle.std.specs.Prelude.{◌≡◌, ◌⊎◌, ℕ, ◌+◌, nat_eq, List, [], ◌∷◌, ◌++◌, position, Contains, Option, None, Some, is_some, if◌then◌else◌}
 
 -- one more identifier: behind the others, unless it is 0 or one of them
 abbrev pub with_name : List ℕ → ℕ → List ℕ
@@ -22,3 +22,7 @@ number_at (Some place) = place + 1
 -- the new identifier: its number among these. 0 stays 0.
 abbrev pub rename : List ℕ → ℕ → ℕ
 rename names id = number_at (position (nat_eq id) names)
+
+-- an identifier of a list, or 0
+abbrev pub IsAmong : List ℕ → ℕ → Type 0
+IsAmong ids id = (id ≡ 0) ⊎ Contains ids id

@@ -6,6 +6,7 @@ mod classes;
 mod conversion;
 mod convert_error;
 mod converted;
+mod examples;
 mod identifiers;
 mod laws;
 mod missing;
@@ -15,4 +16,4 @@ mod values;
 
 pub use conversion::convert;
 pub use convert_error::ConvertError;
-pub use laws::renamed_apart;
+pub use laws::{parts_are_converted, renamed_names, values_are_renamed};

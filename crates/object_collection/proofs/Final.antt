@@ -1,5 +1,5 @@
 -- What holds after a collection.
-use Rattle.std.proofs.Common.{◌≡◌, ◌∙◌, ◌⊎◌, ◌||◌, ◌&&◌, ℕ, ◌+◌, ◌*◌, ◌<◌, ◌≤◌, inl, inr, Bool, true, false, cond, List, [], ◌∷◌, ◌++◌, Option, Some, None, pos, filter, get_or, length, map, nat_eq, refl, sym, ap, subst, arith}
+use Rattle.std.proofs.Common.{◌≡◌, ◌≢◌, ◌∙◌, ◌⊎◌, ◌||◌, ◌&&◌, ℕ, ◌+◌, ◌*◌, ◌<◌, ◌≤◌, inl, inr, Bool, true, false, cond, List, [], ◌∷◌, ◌++◌, Option, Some, None, pos, filter, get_or, length, map, nat_eq, refl, sym, ap, subst, arith}
 use Rattle.std.specs.Prelude.{◌↔◌, ◌^◌, if◌then◌else◌, ℤ, IsTrue, count_by, is_some, nat_le, nat_lt, not}
 use Rattle.std.specs.List.{list_any, AllByRecursion, Contains}
 use Rattle.std.specs.List.{IsDistinct}
@@ -21,19 +21,20 @@ use Rattle.page_tables.specs.declared.address.Window.TheVariants.{Image, Regions
 use Rattle.page_tables.specs.Address.{is_immune, is_in, page_of}
 use Rattle.object_view.specs.declared.names.Slot.{Slot}
 use Rattle.object_view.proofs.Rises.{reads-rise, rose-more}
+use Rattle.object_view.proofs.Spans.{frame-same}
 use Rattle.raw_objects.proofs.Kept.{one-table}
 use Rattle.region_lists.specs.Rows.{Row}
 use Rattle.region_space.proofs.DropLemmas.{from-window}
 use Rattle.large_objects.proofs.PageLemmas.{one-side}
 use Rattle.page_tables.specs.declared.address.Addr.{Addr}
-use Rattle.cow_pages.specs.Memory.{flag_of, is_mapped, page_at, HasOneSharer, IsSound, Memory, Page}
+use Rattle.cow_pages.specs.Memory.{flag_of, frame_at, is_mapped, page_at, HasOneSharer, Memory, Page}
 use Rattle.cow_pages.specs.Only.{OnlyTable}
 use Rattle.cow_pages.specs.View.{u32_at, view_of}
 use Rattle.cow_pages.proofs.OnlyLemmas.{only-trans}
 use Rattle.object_view.specs.Changes.{reads_after_all}
 use Rattle.object_view.specs.Seen.{RoseBy}
 use Rattle.raw_objects.specs.Keeps.{Keeps}
-use Rattle.raw_objects.specs.Raws.{among, HoldsRaws, Raw, Raws}
+use Rattle.raw_objects.specs.Raws.{among, Raw, Raws}
 use Rattle.raw_objects.specs.References.{goes, in_regions, now_at, turned, turned_where}
 use Rattle.raw_objects.specs.References.{address_in as address_of}
 use Rattle.class_layout.specs.declared.kind.Kind.TheVariants.{Ref}
@@ -46,15 +47,14 @@ use Rattle.heap_graph.proofs.Places.{bytes-low, one-place}
 use Rattle.object_view.proofs.Laid.{place-within}
 use Rattle.large_objects.proofs.TableLemmas.{row-spot}
 use Rattle.std.proofs.lemmas.Bool.{cases_order, ne_eqb}
-use Rattle.region_space.specs.Space.{filled, lists_of, IsSpace, Space}
-use Rattle.region_space.specs.Space.{HasPages as HasRegionPages}
+use Rattle.region_space.specs.Space.{filled, lists_of, Space}
 use Rattle.region_space.specs.Space.{holds_page as region_page}
 use Rattle.large_objects.specs.declared.rows.LargeRow.{LargeRow}
-use Rattle.large_objects.specs.Pages.{holds_page, HasPages}
+use Rattle.large_objects.specs.Pages.{holds_page}
 use Rattle.large_objects.specs.Rows.{row_at, slot_base, waits, AreRows}
 use Rattle.live_objects.specs.Live.{addresses}
-use Rattle.weak_refs.specs.Weak.{is_dead, is_page_of, ClearsSlots}
-use Rattle.object_moves.specs.Copies.{at_of, moved, sizes_at, HoldsRegions, KeepsOutside, PacksAt}
+use Rattle.weak_refs.specs.Weak.{is_dead, is_page_of}
+use Rattle.object_moves.specs.Copies.{at_of, sizes_at, HoldsRegions, PacksAt}
 use Rattle.object_moves.specs.Turns.{gone_to, is_reference_at, is_reference_of, is_slot_of}
 use Rattle.object_moves.proofs.Many.{place-reference}
 use Rattle.object_collection.specs.Listed.{leads_young}
@@ -63,8 +63,9 @@ use Rattle.object_view.proofs.Lookups.{address-fits}
 use Rattle.object_view.proofs.Stores.{loaded}
 use Rattle.object_view.proofs.Laid.{ref-kind}
 use Rattle.object_collection.specs.Collects.{may_change, AreLeft, AreRowsLeft, CanCollect, HeapState, IsCollected, IsKept, IsReached, Leads, LeavesPages}
-use Rattle.object_collection.specs.Phases.{goes_by, is_lost, is_turned, leads_to, slot_in, stays_by, stays_in, HaveMoved, IsPlan, Listed, LosesPages, Turning}
+use Rattle.object_collection.specs.Phases.{goes_by, is_lost, is_turned, leads_to, slot_in, stays_by, stays_in, IsPlan, Listed, Turning}
 use Rattle.object_collection.proofs.Marked.{filter-fewer, gone-waits}
+use Rattle.object_collection.proofs.Called.{copied, HasRun}
 use Rattle.object_collection.proofs.Dropping.{dead-window, mapped-alone}
 use Rattle.object_collection.proofs.Facts.{all-at, any-at, any-of, filter-from, filter-in, may-large, may-young, mortal-cases, reached-has, row-in, waiting-row, IsWaiting}
 use Rattle.object_collection.proofs.Nulled.{slot-in, weak-page, weak-reference}
@@ -150,47 +151,18 @@ row-large rows a are it =
     inside 524288 655360 (page_of a) (omega (arith, at)) (omega (arith, at, within))
 
 module _ (h : HeapState) (m : Memory) (t : ℕ) (raws : Raws) (plan : Listed) (can : CanCollect h m t raws) (ok : IsPlan h m raws plan) where
-  -- the objects after the copies were made
-  abbrev pub copied : List Addr → Raws
-  copied tos = moved (cleared h m t raws plan can ok) plan.young tos (length plan.young)
-
-  -- a collection ran: the memory, the regions, the addresses of the copies, the roots and the rows after its steps
-  pub record HasRun (m1 m2 m3 m4 : Memory) (s2 s4 : Space) (tos roots : List Addr) (rows : List LargeRow) : Type 0 where
-    pub clears : ClearsSlots m m1 t (gone h m t raws plan can ok)
-    pub reads1 : m1.reads ≡ reads_after_all m.reads (addresses plan.weak)
-    pub sound0 : IsSound m
-    pub sound1 : IsSound m1
-    pub moves : HaveMoved h.classes m2 t s2 (cleared h m t raws plan can ok) plan.young tos
-    pub regions2 : (s2.count ≡ h.regions.count) × (s2.from ≡ h.regions.in_use) × (s2.objects ≡ length plan.young)
-    pub outside : KeepsOutside m1 m2 t
-    pub only2 : OnlyTable m1 m2 t
-    pub turned : HoldsRaws h.classes (view_of m3 t) (turned_where (copied tos) (is_turned h.classes (copied tos) (record { young = tos; large = plan.large; slots = plan.turned })))
-    pub roots_are : roots ≡ map (gone_to (copied tos)) h.roots
-    pub keeps3 : Keeps m2 m3 t (may_change h)
-    pub reads3 : m3.reads ≡ m2.reads
-    pub sound3 : IsSound m3
-    pub rows_are : rows ≡ filter (stays_by plan.large) h.rows
-    pub no_from : (s4.from ≡ []) × (s4.from_objects ≡ 0)
-    pub regions4 : (s4.in_use ≡ s2.in_use) × (s4.count ≡ s2.count) × (s4.objects ≡ s2.objects)
-    pub loses : LosesPages m3 m4 t (λ p. list_any (region_page p) s2.from || list_any (holds_page p) (filter (goes_by plan.large) h.rows))
-    pub only4 : OnlyTable m3 m4 t
-    pub region_pages : HasRegionPages m4 t (filled (lists_of s4))
-    pub large_pages : HasPages m4 t rows
-    pub space : IsSpace (lists_of s4)
-    pub sound4 : IsSound m4
-
-  module _ (m1 m2 m3 m4 : Memory) (s2 s4 : Space) (tos roots : List Addr) (rows : List LargeRow) (run : HasRun m1 m2 m3 m4 s2 s4 tos roots rows) where
+  module _ (m1 m2 m3 m4 : Memory) (s2 s4 : Space) (tos roots : List Addr) (rows : List LargeRow) (run : HasRun h m t raws plan can ok m1 m2 m3 m4 s2 s4 tos roots rows) where
     pub only-table : OnlyTable m m4 t
-    only-table = only-trans m m3 m4 t (only-three h m t raws plan can ok m1 run.clears run.sound1 m2 s2 tos run.moves run.regions2.1 run.outside run.only2 m3 run.keeps3) run.only4
+    only-table = only-trans m m3 m4 t (only-three h m t raws plan can ok m1 run.before.clears run.before.sound1 m2 s2 tos run.before.moves run.before.regions2.1 run.before.outside run.before.only2 m3 run.before.keeps3) run.only4
 
     pub objects-fewer : s4.objects ≤ h.regions.objects
-    objects-fewer = let few = ok.few in let r4 = run.regions4.2 in let r2 = run.regions2.2 in omega (arith, few, r4, r2)
+    objects-fewer = let few = ok.few in let r4 = run.regions4.2 in let r2 = run.before.regions2.2 in omega (arith, few, r4, r2)
 
     pub waiting-fewer : length (filter waits rows) ≤ length (filter waits h.rows)
     waiting-fewer = subst (λ (rs : List LargeRow). length (filter waits rs) ≤ length (filter waits h.rows)) (sym run.rows_are) (filter-fewer waits (stays_by plan.large) h.rows)
 
     abbrev kept : Keeps m m1 t (is_page_of (gone h m t raws plan can ok))
-    kept = kept1 h m t raws plan can ok m1 run.clears run.sound1
+    kept = kept1 h m t raws plan can ok m1 run.before.clears run.before.sound1
 
     gone-may : (q : ℕ) → is_page_of (gone h m t raws plan can ok) q ≡ true → may_change h q ≡ true
     gone-may q is =
@@ -201,7 +173,7 @@ module _ (h : HeapState) (m : Memory) (t : ℕ) (raws : Raws) (plan : Listed) (c
     goes-may q is = may-large h m t raws can q (gone-waits plan.large q h.rows is)
 
     from-regions : (q : ℕ) → list_any (region_page q) s2.from ≡ true → is_in Regions q ≡ true
-    from-regions q is = from-window (lists_of s2) q run.moves.held.space is
+    from-regions q is = from-window (lists_of s2) q run.before.moves.held.space is
 
     not-gone : (q : ℕ) → may_change h q ≡ false → (list_any (region_page q) s2.from || list_any (holds_page q) (filter (goes_by plan.large) h.rows)) ≡ false
     not-gone q out = or_from (list_any (region_page q) s2.from) (list_any (holds_page q) (filter (goes_by plan.large) h.rows))
@@ -226,8 +198,8 @@ module _ (h : HeapState) (m : Memory) (t : ℕ) (raws : Raws) (plan : Listed) (c
     regions-alone q inside mapped =
         let any : list_any (region_page q) (filled (lists_of s4)) ≡ true = sym (run.region_pages q inside) ∙ mapped in
         let in_use : list_any (region_page q) s2.in_use ≡ true = ap (λ (rows : List Row). list_any (region_page q) rows) (sym run.regions4.0 ∙ sym (append-nil s4.in_use) ∙ ap (λ (rows : List Row). s4.in_use ++ rows) (sym run.no_from.0)) ∙ any in
-        let alone : HasOneSharer m2 t q = run.moves.held.alone q (list_any-append (region_page q) s2.in_use s2.from ∙ or_left (list_any (region_page q) s2.in_use) (list_any (region_page q) s2.from) in_use) in
-        mapped-alone m2 m4 t q (only-trans m2 m3 m4 t (one-table m2 m3 t (may_change h) run.keeps3) run.only4) alone mapped
+        let alone : HasOneSharer m2 t q = run.before.moves.held.alone q (list_any-append (region_page q) s2.in_use s2.from ∙ or_left (list_any (region_page q) s2.in_use) (list_any (region_page q) s2.from) in_use) in
+        mapped-alone m2 m4 t q (only-trans m2 m3 m4 t (one-table m2 m3 t (may_change h) run.before.keeps3) run.only4) alone mapped
 
     mapped-alone' : (q : ℕ) → (is_in Regions q ≡ true) ⊎ HasOneSharer m t q → IsTrue (is_mapped m4 t q) → HasOneSharer m4 t q
     mapped-alone' q (inl inside) mapped = regions-alone q inside mapped
@@ -242,7 +214,7 @@ module _ (h : HeapState) (m : Memory) (t : ℕ) (raws : Raws) (plan : Listed) (c
     ]
 
     abbrev now : Raws
-    now = copied tos
+    now = copied h m t raws plan can ok tos
 
     abbrev go : ℕ → ℕ
     go = leads_to h.rows plan.stays now
@@ -283,7 +255,7 @@ module _ (h : HeapState) (m : Memory) (t : ℕ) (raws : Raws) (plan : Listed) (c
     dead-goes : (a : ℕ) → raws.has a ≡ true → is_mortal h.rows a ≡ true → (IsReached h raws a → ⊥) → go a ≡ 0
     dead-goes a has mortal unreached = elim (mortal-cases h.rows a mortal) [
       | inl inside ↦
-          let same : now.raw a ≡ (cleared h m t raws plan can ok).raw a = run.moves.moves.same a has (λ i below e.
+          let same : now.raw a ≡ (cleared h m t raws plan can ok).raw a = run.before.moves.moves.same a has (λ i below e.
           unreached (subst (λ (n : ℕ). IsReached h raws n) e ((ok.young.only (at_of plan.young i)).0 (get-in plan.young i below)).1)) in
           led-by a (young-stays a inside) ∙ inside-goes a inside ∙ ap (λ (r : Raw). now_at r.header) same ∙ can.unmoved a has inside
       | inr waiting ↦
@@ -298,10 +270,10 @@ module _ (h : HeapState) (m : Memory) (t : ℕ) (raws : Raws) (plan : Listed) (c
     leads : Leads h raws plan.young tos go
     leads = record {
       listed = ok.young;
-      length_is = same-length h m t raws plan can ok m1 run.clears run.sound1 m2 s2 tos run.moves run.regions2.1 run.outside run.only2;
+      length_is = same-length h m t raws plan can ok m1 run.before.clears run.before.sound1 m2 s2 tos run.before.moves run.before.regions2.1 run.before.outside run.before.only2;
       moves = λ i below.
           let it = young-reached h m t raws plan can ok i below in
-          led-by (at_of plan.young i) (young-stays (at_of plan.young i) it.1) ∙ inside-goes (at_of plan.young i) it.1 ∙ ap (λ (r : Raw). now_at r.header) (run.moves.moves.forwarded i below);
+          led-by (at_of plan.young i) (young-stays (at_of plan.young i) it.1) ∙ inside-goes (at_of plan.young i) it.1 ∙ ap (λ (r : Raw). now_at r.header) (run.before.moves.moves.forwarded i below);
       stays = λ a is. let parts = or_parts (in_regions a) (waits_in (row_at h.rows a)) is in led-by a (ap (λ (b : Bool). b && not (is_member plan.stays (slot_in a))) parts.1) ∙ beside a parts.0;
       large = λ a out r. led-by a (reached-stays a r) ∙ beside a out;
       dead = dead-goes;
@@ -335,7 +307,7 @@ module _ (h : HeapState) (m : Memory) (t : ℕ) (raws : Raws) (plan : Listed) (c
         clash (is_lost h.rows plan.stays a) is (reached-stays a (reached-start h.classes h.rows raws (starts_of h.roots h.slots) a (Contains-append_left (addresses h.roots) _ a c) node))))
 
     roots-lead : addresses roots ≡ map go (addresses h.roots)
-    roots-lead = ap (λ (xs : List Addr). addresses xs) run.roots_are ∙ each h.roots (λ a c. c)
+    roots-lead = ap (λ (xs : List Addr). addresses xs) run.before.roots_are ∙ each h.roots (λ a c. c)
       where
         each : (xs : List Addr) → ((a : ℕ) → Contains (addresses xs) a → Contains (addresses h.roots) a) → addresses (map (gone_to now) xs) ≡ map go (addresses xs)
         each [] inside = refl
@@ -435,14 +407,14 @@ module _ (h : HeapState) (m : Memory) (t : ℕ) (raws : Raws) (plan : Listed) (c
         any-of (λ (b : ℕ). nat_eq b (a + p.offset)) (gone h m t raws plan can ok) (a + p.offset) (filter-in (is_dead (stays_in plan.stays) v) (addresses plan.weak) (a + p.offset) listed dead') (eq-eqb (a + p.offset) (a + p.offset) refl)
 
     stays-here : (a : ℕ) → raws.has a ≡ true → in_regions a ≡ false → now.raw a ≡ (cleared h m t raws plan can ok).raw a
-    stays-here a has out = stays-raw h m t raws plan can ok m1 run.clears run.sound1 m2 s2 tos run.moves run.regions2.1 run.outside run.only2 a has out
+    stays-here a has out = stays-raw h m t raws plan can ok m1 run.before.clears run.before.sound1 m2 s2 tos run.before.moves run.before.regions2.1 run.before.outside run.before.only2 a has out
 
     length-same : length tos ≡ length plan.young
-    length-same = same-length h m t raws plan can ok m1 run.clears run.sound1 m2 s2 tos run.moves run.regions2.1 run.outside run.only2
+    length-same = same-length h m t raws plan can ok m1 run.before.clears run.before.sound1 m2 s2 tos run.before.moves run.before.regions2.1 run.before.outside run.before.only2
 
     copy-raw : (a : ℕ) → IsKept h raws a → now.raw (go a) ≡ (cleared h m t raws plan can ok).raw a
     copy-raw a k = elim (kept-cases a k) [
-      | inl it ↦ ap now.raw it.3 ∙ run.moves.moves.copy it.0 it.1 ∙ ap (cleared h m t raws plan can ok).raw it.2
+      | inl it ↦ ap now.raw it.3 ∙ run.before.moves.moves.copy it.0 it.1 ∙ ap (cleared h m t raws plan can ok).raw it.2
       | inr it ↦ ap now.raw it.1 ∙ stays-here a k.has it.0
     ]
 
@@ -547,10 +519,10 @@ module _ (h : HeapState) (m : Memory) (t : ℕ) (raws : Raws) (plan : Listed) (c
     test-outside x out = ap (λ (c : Bool). cond c (list_any (λ (y : Addr). nat_eq y.0 x) tos) (not (is_lost h.rows plan.stays x))) out
 
     tos-has : (i : ℕ) → i < length tos → now.has (at_of tos i) ≡ true
-    tos-has i below = copy-has h m t raws plan can ok m1 run.clears run.sound1 m2 s2 tos run.moves run.regions2.1 run.outside run.only2 i below
+    tos-has i below = copy-has h m t raws plan can ok m1 run.before.clears run.before.sound1 m2 s2 tos run.before.moves run.before.regions2.1 run.before.outside run.before.only2 i below
 
     tos-inside : (i : ℕ) → i < length tos → in_regions (at_of tos i) ≡ true
-    tos-inside i below = copy-inside h m t raws plan can ok m1 run.clears run.sound1 m2 s2 tos run.moves run.regions2.1 run.outside run.only2 i below
+    tos-inside i below = copy-inside h m t raws plan can ok m1 run.before.clears run.before.sound1 m2 s2 tos run.before.moves run.before.regions2.1 run.before.outside run.before.only2 i below
 
     kept-left : (a : ℕ) → IsKept h raws a → left-raws.has (go a) ≡ true
     kept-left a k = elim (kept-cases a k) [
@@ -561,7 +533,7 @@ module _ (h : HeapState) (m : Memory) (t : ℕ) (raws : Raws) (plan : Listed) (c
           let any = any-of (λ (y : Addr). nat_eq y.0 (at_of tos it.0)) tos to (it.0, below, get_or_default tos it.0 to none below) (eq-eqb to.0 to.0 refl) in
           subst (λ (x : ℕ). left-raws.has x ≡ true) (sym it.3) (and_from (now.has (at_of tos it.0)) (left-test (at_of tos it.0)) (tos-has it.0 below) (test-inside (at_of tos it.0) (tos-inside it.0 below) ∙ any))
       | inr it ↦
-          subst (λ (x : ℕ). left-raws.has x ≡ true) (sym it.1) (and_from (now.has a) (left-test a) (run.moves.moves.has a k.has) (test-outside a it.0 ∙ ap not it.2))
+          subst (λ (x : ℕ). left-raws.has x ≡ true) (sym it.1) (and_from (now.has a) (left-test a) (run.before.moves.moves.has a k.has) (test-outside a it.0 ∙ ap not it.2))
     ]
 
     waiting-reached : (b : ℕ) → IsWaiting h.rows b → is_lost h.rows plan.stays b ≡ false → IsReached h raws b
@@ -597,7 +569,7 @@ module _ (h : HeapState) (m : Memory) (t : ℕ) (raws : Raws) (plan : Listed) (c
             (at_of plan.young i, record { has = (reached-has h m t raws can (at_of plan.young i) reach.1).0; stays = inr reach.1 }, leads.moves i below ∙ to)
         by false out parts =
             let quiet : is_lost h.rows plan.stays b ≡ false = flip (is_lost h.rows plan.stays b) (sym (test-outside b out) ∙ parts.1) in
-            elim (run.moves.moves.only b parts.0) [
+            elim (run.before.moves.moves.only b parts.0) [
               | inl old ↦ (b, not-lost b old out quiet, led-by b quiet ∙ beside b out)
               | inr it ↦ absurd (clash (in_regions b) (ap in_regions (sym it.2) ∙ tos-inside it.0 (omega (arith, it.1, length-same))) out)
             ]
@@ -630,8 +602,8 @@ module _ (h : HeapState) (m : Memory) (t : ℕ) (raws : Raws) (plan : Listed) (c
 
     left-held : HoldsRegions h.classes m4 t (lists_of s4) left-raws
     left-held =
-        held-left h m t raws plan can ok tos tests left-test m2 m3 m4 s2 s4 run.moves length-same left-stays
-        (run.keeps3.live t ∙ run.outside.live t ∙ (kept1 h m t raws plan can ok m1 run.clears run.sound1).live t ∙ can.held.live) run.turned run.loses (only-trans m2 m3 m4 t (one-table m2 m3 t (may_change h) run.keeps3) run.only4) run.sound4 run.space run.region_pages run.regions4.0 run.no_from.0
+        held-left h m t raws plan can ok tos tests left-test m2 m3 m4 s2 s4 run.before.moves length-same left-stays
+        (run.before.keeps3.live t ∙ run.before.outside.live t ∙ (kept1 h m t raws plan can ok m1 run.before.clears run.before.sound1).live t ∙ can.held.live) run.before.turned run.loses (only-trans m2 m3 m4 t (one-table m2 m3 t (may_change h) run.before.keeps3) run.only4) run.sound4 run.space run.region_pages run.regions4.0 run.no_from.0
 
     pub collected : IsCollected h m4 t raws s4 rows roots
     collected = record {
@@ -642,36 +614,57 @@ module _ (h : HeapState) (m : Memory) (t : ℕ) (raws : Raws) (plan : Listed) (c
       leads = leads;
       left = are-left;
       held = left-held;
-      packed = subst (λ (in_use : List Row). PacksAt in_use (sizes_at h.classes raws plan.young) tos) (sym run.regions4.0) run.moves.packed;
-      fewer = let used = run.moves.packed.pack.used in let same = ap length run.regions4.0 in let room = ok.room in omega (arith, used, same, room);
-      objects = run.regions4.2 ∙ run.regions2.2 ∙ sym leads.length_is;
+      packed = subst (λ (in_use : List Row). PacksAt in_use (sizes_at h.classes raws plan.young) tos) (sym run.regions4.0) run.before.moves.packed;
+      fewer = let used = run.before.moves.packed.pack.used in let same = ap length run.regions4.0 in let room = ok.room in omega (arith, used, same, room);
+      objects = run.regions4.2 ∙ run.before.regions2.2 ∙ sym leads.length_is;
       no_from = run.no_from;
-      count = run.regions4.1 ∙ run.regions2.0;
+      count = run.regions4.1 ∙ run.before.regions2.0;
       rows_left = rows-left;
       large_pages = run.large_pages;
       roots_lead = roots-lead;
     }
 
+    -- a page that may not change is as it was
+    others-stay : (u q : ℕ) → (u ≢ t) ⊎ (may_change h q ≡ false) → page_at m4 u q ≡ page_at m u q
+    others-stay u q off =
+        run.loses.others u q (elim off [ inl ne ↦ inl ne | inr out ↦ inr (not-gone q out) ])
+        ∙ run.before.keeps3.others u q off
+        ∙ run.before.outside.others u q (elim off [ inl ne ↦ inl ne | inr out ↦ inr (no (is_in Regions q) (λ is. clash (may_change h q) (may-young h m t raws can q is) out)) ])
+        ∙ kept.others u q (elim off [ inl ne ↦ inl ne | inr out ↦ inr (no (is_page_of (gone h m t raws plan can ok) q) (λ is. clash (may_change h q) (gone-may q is) out)) ])
+
+    -- a page outside the regions that is still mapped has the frame that it had
+    frame-stays : (q : ℕ) → is_in Regions q ≡ false → IsTrue (is_mapped m4 t q) → frame_at m4 t q ≡ frame_at m t q
+    frame-stays q beside mapped = by (may_change h q) refl
+      where
+        by : (b : Bool) → may_change h q ≡ b → frame_at m4 t q ≡ frame_at m t q
+        by false out = frame-same m m4 t t q q (others-stay t q (inr out))
+        by true may = elim (may-cases q may) [
+          | inl inside ↦ absurd (clash (is_in Regions q) inside beside)
+          | inr one ↦
+              let last : page_at m4 t q ≡ page_at m3 t q = run.loses.others t q (inr (mapped-stays q beside mapped)) in
+              let copied' : page_at m2 t q ≡ page_at m1 t q = run.before.outside.others t q (inr beside) in
+              let in2 : IsTrue (is_mapped m2 t q) = sym (run.before.keeps3.mapped q) ∙ ap (λ (o : Option Page). is_some o) (sym last) ∙ mapped in
+              let in0 : IsTrue (is_mapped m t q) = sym (kept.mapped q) ∙ ap (λ (o : Option Page). is_some o) (sym copied') ∙ in2 in
+              frame-same m3 m4 t t q q last ∙ run.before.keeps3.frames q in2 (mapped-alone m1 m2 t q run.before.only2 (kept.alone q in0 one) in2) ∙ frame-same m1 m2 t t q q copied' ∙ kept.frames q in0 one
+        ]
+
     pub leaves : LeavesPages h m m4 t
     leaves = record {
-      others = λ u q off.
-          run.loses.others u q (elim off [ inl ne ↦ inl ne | inr out ↦ inr (not-gone q out) ])
-          ∙ run.keeps3.others u q off
-          ∙ run.outside.others u q (elim off [ inl ne ↦ inl ne | inr out ↦ inr (no (is_in Regions q) (λ is. clash (may_change h q) (may-young h m t raws can q is) out)) ])
-          ∙ kept.others u q (elim off [ inl ne ↦ inl ne | inr out ↦ inr (no (is_page_of (gone h m t raws plan can ok) q) (λ is. clash (may_change h q) (gone-may q is) out)) ]);
-      live = λ u. run.loses.live u ∙ run.keeps3.live u ∙ run.outside.live u ∙ kept.live u;
+      others = others-stay;
+      live = λ u. run.loses.live u ∙ run.before.keeps3.live u ∙ run.before.outside.live u ∙ kept.live u;
       alone = λ q may mapped. mapped-alone' q (may-cases q may) mapped;
       mapped = λ q beside quiet.
           ap (λ (o : Option Page). is_some o) (run.loses.others t q (inr (beside-gone q beside quiet)))
-          ∙ run.keeps3.mapped q ∙ ap (λ (o : Option Page). is_some o) (run.outside.others t q (inr beside)) ∙ kept.mapped q;
+          ∙ run.before.keeps3.mapped q ∙ ap (λ (o : Option Page). is_some o) (run.before.outside.others t q (inr beside)) ∙ kept.mapped q;
       written = λ q beside mapped was.
           let here : flag_of (page_at m4 t q) ≡ flag_of (page_at m3 t q) = ap (λ (o : Option Page). flag_of o) (run.loses.others t q (inr (mapped-stays q beside mapped))) in
-          here ∙ run.keeps3.written q (ap (λ (o : Option Page). flag_of o) (run.outside.others t q (inr beside)) ∙ kept.written q was);
+          here ∙ run.before.keeps3.written q (ap (λ (o : Option Page). flag_of o) (run.before.outside.others t q (inr beside)) ∙ kept.written q was);
+      frames = frame-stays;
     }
 
     pub rose : RoseBy (4 * length h.slots) m.reads m4.reads
     rose =
-        let rise = reads-rise m.reads (addresses plan.weak) run.sound0.reads_fit in
-        let same : m4.reads ≡ reads_after_all m.reads (addresses plan.weak) = run.loses.reads ∙ run.reads3 ∙ run.outside.reads ∙ run.reads1 in
+        let rise = reads-rise m.reads (addresses plan.weak) run.before.sound0.reads_fit in
+        let same : m4.reads ≡ reads_after_all m.reads (addresses plan.weak) = run.loses.reads ∙ run.before.reads3 ∙ run.before.outside.reads ∙ run.before.reads1 in
         let few = immune-few h m t raws plan can ok in
         subst (λ (n : ℕ). RoseBy (4 * length h.slots) m.reads n) (sym same) (rose-more (count_by is_immune (addresses plan.weak)) (4 * length h.slots) m.reads (reads_after_all m.reads (addresses plan.weak)) (omega (arith, few)) rise)

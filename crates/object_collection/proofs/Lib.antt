@@ -12,6 +12,7 @@ pub mod AllWeak
 pub mod Running
 pub mod Sizes
 pub mod Remaining
+pub mod Called
 pub mod Final
 pub mod Reserved
 pub mod Planning

@@ -43,7 +43,7 @@ can-reserved h old new t raws is sound can =
 pub leaves-reserved : (h : HeapState) (old mid new : Memory) (t : ℕ) → mid ≡ counted old mid → LeavesPages h mid new t → LeavesPages h old new t
 leaves-reserved h old mid new t is leaves =
     let l : LeavesPages h (counted old mid) new t = subst (λ (m : Memory). LeavesPages h m new t) is leaves in
-    record { others = l.others; live = l.live; alone = l.alone; mapped = l.mapped; written = l.written }
+    record { others = l.others; live = l.live; alone = l.alone; mapped = l.mapped; written = l.written; frames = l.frames }
 
 pub rose-reserved : (old mid new : Memory) (n : ℕ) → mid ≡ counted old mid → RoseBy n mid.reads new.reads → RoseBy n old.reads new.reads
 rose-reserved old mid new n is rose = subst (λ (r : ℕ). RoseBy n r new.reads) (ap (λ (m : Memory). m.reads) is) rose

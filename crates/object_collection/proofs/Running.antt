@@ -84,15 +84,6 @@ filled-window s p space is =
     let few = space.few in
     inside 262144 327680 p (omega (arith, here.from)) (omega (arith, here.from, here.to, region, most, few))
 
--- lists that are equal one by one
-pub same-listed : (p : Listed) (young large weak : List Addr) (turned : List Slot) → young ≡ p.young → large ≡ p.large → weak ≡ p.weak → turned ≡ p.turned
-    → p ≡ record { young = young; large = large; stays = p.stays; weak = weak; turned = turned }
-same-listed p young large weak turned a b c d =
-    ap (λ (x : List Addr). record { young = x; large = p.large; stays = p.stays; weak = p.weak; turned = p.turned }) (sym a)
-    ∙ ap (λ (x : List Addr). record { young = young; large = x; stays = p.stays; weak = p.weak; turned = p.turned }) (sym b)
-    ∙ ap (λ (x : List Addr). record { young = young; large = large; stays = p.stays; weak = x; turned = p.turned }) (sym c)
-    ∙ ap (λ (x : List Slot). record { young = young; large = large; stays = p.stays; weak = weak; turned = x }) (sym d)
-
 -- each page of some bytes has one of them
 pub page-byte : (at size p : ℕ) → 0 < size → page_of at ≤ p → p < page_of at + pages_in at (at + size) → (i : ℕ) × (i < size) × (page_of (at + i) ≡ p)
 page-byte at size p some low high =
@@ -107,7 +98,7 @@ contains-in (x ∷ slots) slot c = elim (cons-cases x slots slot c) [ inl same �
 pub regions-high : (a : ℕ) → in_regions a ≡ true → region_base ≤ a
 regions-high a is = let parts = and_parts (nat_le 262144 (a / 4096)) (nat_lt (a / 4096) 327680) is in omega (arith, leb-true 262144 (a / 4096) parts.0)
 
-places-length : (p : ℕ) (sizes : List ℕ) → length (places_from p sizes) ≡ length sizes
+pub places-length : (p : ℕ) (sizes : List ℕ) → length (places_from p sizes) ≡ length sizes
 places-length p [] = refl
 places-length p (s ∷ sizes) = ap (λ (n : ℕ). suc n) (places-length (after p s) sizes)
 

@@ -9,7 +9,7 @@ use Rattle.class_layout.specs.Placing.{IsIn}
 use Rattle.page_tables.specs.declared.address.Addr.{Addr}
 use Rattle.page_tables.specs.declared.address.Window.TheVariants.{Regions}
 use Rattle.page_tables.specs.Address.{is_in, page_of}
-use Rattle.cow_pages.specs.Memory.{is_live, is_mapped, is_written, page_at, HasOneSharer, Memory}
+use Rattle.cow_pages.specs.Memory.{frame_at, is_live, is_mapped, is_written, page_at, HasOneSharer, Memory}
 use Rattle.graph_pages.specs.Collected.{turned_by}
 use Rattle.heap_graph.specs.Places.{places_of}
 use Rattle.object_view.specs.declared.names.Slot.{Slot}
@@ -122,13 +122,16 @@ pub record AreRowsLeft (h : HeapState) (raws : Raws) (rows : List LargeRow) : Ty
 abbrev pub may_change : HeapState → ℕ → Bool
 may_change h p = is_in Regions p || list_any (holds_page p) (filter waits h.rows) || list_any (λ (slot : Slot). nat_eq (page_of slot.at.0) p) h.slots
 
--- every other page is as it was, with its frame; a mapped one that may change has its frame alone, and keeps its flag
+-- every other page is as it was, with its frame; a mapped one that may change has its frame alone
 pub record LeavesPages (h : HeapState) (old new : Memory) (t : ℕ) : Type 0 where
   pub others : (u q : ℕ) → (u ≢ t) ⊎ (may_change h q ≡ false) → page_at new u q ≡ page_at old u q
   pub live : (u : ℕ) → is_live new u ≡ is_live old u
   pub alone : (q : ℕ) → may_change h q ≡ true → IsTrue (is_mapped new t q) → HasOneSharer new t q
   pub mapped : (q : ℕ) → is_in Regions q ≡ false → list_any (holds_page q) (filter waits h.rows) ≡ false → is_mapped new t q ≡ is_mapped old t q
+  -- outside the regions, a flag that is set stays set
   pub written : (q : ℕ) → is_in Regions q ≡ false → IsTrue (is_mapped new t q) → IsTrue (is_written old t q) → IsTrue (is_written new t q)
+  -- outside the regions, every page that is mapped afterwards has its old frame
+  pub frames : (q : ℕ) → is_in Regions q ≡ false → IsTrue (is_mapped new t q) → frame_at new t q ≡ frame_at old t q
 
 -- what a collection leaves: the kept objects, those of the regions packed anew, in the order in which they stood
 pub record IsCollected (h : HeapState) (m : Memory) (t : ℕ) (raws : Raws) (regions : Space) (rows : List LargeRow) (roots : List Addr) : Type 0 where

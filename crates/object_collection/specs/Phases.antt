@@ -98,7 +98,7 @@ pub record Turning : Type 0 where
 abbrev pub none_turned : ℕ → Bool
 none_turned b = false
 
--- those of the objects in the regions are turned
+-- those of the first objects are turned
 abbrev pub young_turned : List Class → Raws → List Addr → ℕ → Bool
 young_turned cs raws young b = is_reference_of cs raws young b || none_turned b
 

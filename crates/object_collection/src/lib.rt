@@ -9,3 +9,5 @@ mod plan;
 mod weak;
 
 pub use collect::{Kept, collect_objects};
+pub use lists::young_slots;
+pub use phases::turn_references;

@@ -8,6 +8,7 @@ ghost use Rattle.cow_pages.specs.Only.{OnlyTable};
 ghost use Rattle.cow_pages.specs.View.{view_of};
 ghost use Rattle.page_tables.specs.Address.{page_of};
 ghost use Rattle.object_view.specs.Changes.{reads_after_all};
+ghost use Rattle.object_view.specs.Seen.{RoseBy};
 ghost use Rattle.raw_objects.specs.Keeps.{Keeps};
 ghost use Rattle.raw_objects.specs.Raws.{HoldsRaws, Raws};
 ghost use Rattle.raw_objects.specs.References.{turned_where};
@@ -20,7 +21,7 @@ ghost use Rattle.large_objects.specs.Rows.{row_at, waits, AreRows};
 ghost use Rattle.live_objects.specs.Live.{addresses};
 ghost use Rattle.live_objects.specs.Reach.{in_large};
 ghost use Rattle.object_moves.specs.Copies.{at_of, KeepsOutside};
-ghost use Rattle.object_moves.specs.Turns.{gone_to, slot_of, ObjectsWithin};
+ghost use Rattle.object_moves.specs.Turns.{gone_to, reads_to_turn, slot_of, ObjectsWithin};
 ghost use Rattle.object_collection.specs.Phases.{goes_by, is_turned, marked_by, stays_by, stays_in, CanMove, CanTurn, HaveMoved, LosesPages};
 
 use bit_set::BitSet;
@@ -98,7 +99,10 @@ pub fn move_young(
     copy_all(frames, classes, t, young, regions);
 }
 
-/// Turns all references of these objects, these slots and the roots to where their targets went.
+/// Turns all references of these objects, these slots and the roots to where their targets went. Objects, small and large
+/// ones, may stand in any window, on pages that have their frames alone. No memory is taken. Where they all stand in the
+/// regions or above, no read is counted; where only the large ones do, at most 4 for each 4 bytes of another object, and 16
+/// more of each.
 pub fn turn_references(
     frames: &mut Frames,
     classes: &Classes,
@@ -118,6 +122,9 @@ pub fn turn_references(
         → Keeps frames.old frames.new t.0 may }
     ensures reads { ((i : ℕ) → i < length young.now → region_base ≤ at_of young.now i) → ((i : ℕ) → i < length large.now → region_base ≤ at_of large.now i)
         → frames.new.reads ≡ frames.old.reads }
+    ensures bounded { IsSound frames.old → ((i : ℕ) → i < length large.now → region_base ≤ at_of large.now i)
+        → (raws : Raws) → CanTurn classes.now frames.old t.0 raws (record { young = young.now; large = large.now; slots = slots.now }) roots.old
+        → RoseBy (reads_to_turn classes.now raws young.now) frames.old.reads frames.new.reads }
     ensures sound { IsSound frames.old → IsSound frames.new }
 {
     turn_all(frames, classes, t, young);

@@ -54,7 +54,7 @@ next-same : (raws now : Raws) (froms tos : List Addr) (k n : ℕ) → k < n → 
 next-same raws now froms tos k n lt once has m = m.same (at_of froms k) has (λ i below. once i k below lt)
 
 module _ (raws : Raws) (froms tos : List Addr) (n : ℕ) (has : (i : ℕ) → i < n → raws.has (at_of froms i) ≡ true) (once : (i j : ℕ) → i < j → j < n → at_of froms i ≢ at_of froms j) where
-  moved-none : AreMoved raws raws froms tos 0
+  pub moved-none : AreMoved raws raws froms tos 0
   moved-none = record {
     has = λ a is. is;
     only = λ a is. inl is;
@@ -117,11 +117,36 @@ moved-agree raws now froms tos others k same m = record {
 }
 
 -- an object that was there has its shape
-moved-shape : (raws : Raws) (froms tos : List Addr) (k a : ℕ) → raws.has a ≡ true → ((j : ℕ) → j < k → raws.has (at_of tos j) ≡ false) → ((moved raws froms tos k).raw a).shape ≡ (raws.raw a).shape
+pub moved-shape : (raws : Raws) (froms tos : List Addr) (k a : ℕ) → raws.has a ≡ true → ((j : ℕ) → j < k → raws.has (at_of tos j) ≡ false) → ((moved raws froms tos k).raw a).shape ≡ (raws.raw a).shape
 moved-shape raws froms tos zero a is fresh = refl
 moved-shape raws froms tos (suc k) a is fresh =
     evacuated-shape (moved raws froms tos k) (at_of froms k) (at_of tos k) a (λ e. true≢false (sym is ∙ ap raws.has e ∙ fresh k (omega arith)))
     ∙ moved-shape raws froms tos k a is (λ j below. fresh j (omega (arith, below)))
+
+-- one more was moved, and its new address noted in the list
+pub record MovesOn (raws : Raws) (froms tos noted : List Addr) (i to : ℕ) : Type 0 where
+  pub is : evacuated (moved raws froms tos i) (at_of tos i) to ≡ moved raws froms noted (i + 1)
+  pub moves : AreMoved raws (moved raws froms noted (i + 1)) froms noted (i + 1)
+
+pub moves-on : (raws : Raws) (froms tos : List Addr) (i : ℕ) (to : Addr) → ((k : ℕ) → k < length froms → raws.has (at_of froms k) ≡ true)
+    → ((k j : ℕ) → k < j → j < length froms → at_of froms k ≢ at_of froms j) → i < length froms → i < length tos → at_of tos i ≡ at_of froms i
+    → AreMoved raws (moved raws froms tos i) froms tos i → (moved raws froms tos i).has to.0 ≡ false → MovesOn raws froms tos (set tos i to) i to.0
+moves-on raws froms tos i to has once below there here moves free =
+    let none : Addr = record { 0 = 0 } in
+    let from : ℕ = at_of froms i in
+    let noted : List Addr = set tos i to in
+    let at : at_of noted i ≡ to.0 = ap (λ (a : Addr). a.0) (get_or-set_same tos i to none there) in
+    let others : (j : ℕ) → j ≢ i → at_of noted j ≡ at_of tos j = λ j ne. ap (λ (a : Addr). a.0) (get_or-set_other tos i j to none ne) in
+    let before : moved raws froms noted i ≡ moved raws froms tos i = moved-same raws froms tos noted i (λ j less. others j (omega (arith, less))) in
+    let step : evacuated (moved raws froms tos i) (at_of tos i) to.0 ≡ moved raws froms noted (suc i) =
+    ap (λ n. evacuated (moved raws froms tos i) n to.0) here ∙ ap (λ (x : Raws). evacuated x from to.0) (sym before) ∙ ap (evacuated (moved raws froms noted i) from) (sym at) in
+    let e : i + 1 ≡ suc i = omega arith in
+    let was : AreMoved raws (moved raws froms noted i) froms noted i = moved-agree raws (moved raws froms noted i) froms tos noted i (λ j less. others j (omega (arith, less))) (subst (λ (x : Raws). AreMoved raws x froms tos i) (sym before) moves) in
+    let next : AreMoved raws (moved raws froms noted (suc i)) froms noted (suc i) = moved-next raws froms noted (length froms) has once i below (moved raws froms noted i) was (ap (λ (x : Raws). x.has (at_of noted i)) before ∙ ap (moved raws froms tos i).has at ∙ free) in
+    record {
+      is = step ∙ ap (λ (k : ℕ). moved raws froms noted k) (sym e);
+      moves = subst (λ (k : ℕ). AreMoved raws (moved raws froms noted k) froms noted k) (sym e) next;
+    }
 
 -- PLACES
 
@@ -279,12 +304,7 @@ module _ (cs : List Class) (m : Memory) (t : ℕ) (s : Lists) (raws : Raws) (fro
           let tos' : List Addr = set tos i to in
           let at : at_of tos' i ≡ to.0 = ap (λ (a : Addr). a.0) (get_or-set_same tos i to none there) in
           let others : (j : ℕ) → j ≢ i → at_of tos' j ≡ at_of tos j = λ j ne. ap (λ (a : Addr). a.0) (get_or-set_other tos i j to none ne) in
-          let before : moved raws froms tos' i ≡ moved raws froms tos i = moved-same raws froms tos tos' i (λ j less. others j (omega (arith, less))) in
-          let step : evacuated (moved raws froms tos i) (at_of tos i) to.0 ≡ evacuated (moved raws froms tos' i) from (at_of tos' i) =
-          ap (λ n. evacuated (moved raws froms tos i) n to.0) here ∙ ap (λ (x : Raws). evacuated x from to.0) (sym before) ∙ ap (evacuated (moved raws froms tos' i) from) (sym at) in
-          let e : i + 1 ≡ suc i = omega arith in
-          let was : AreMoved raws (moved raws froms tos' i) froms tos' i = moved-agree raws (moved raws froms tos' i) froms tos tos' i (λ j less. others j (omega (arith, less))) (subst (λ (x : Raws). AreMoved raws x froms tos i) (sym before) c.moves) in
-          let next : AreMoved raws (moved raws froms tos' (suc i)) froms tos' (suc i) = moved-next raws froms tos' (length froms) ok.has ok.once i below (moved raws froms tos' i) was (ap (λ (x : Raws). x.has (at_of tos' i)) before ∙ ap (moved raws froms tos i).has at ∙ free) in
+          let on = moves-on raws froms tos i to ok.has ok.once below there here c.moves free in
           let rows : s2.in_use ≡ with_object s'.in_use places.region size = places.in_use in
           let spot : to.0 ≡ address_in s2.in_use (place (end_from 0 (take i sizes)) size) =
           places.spot ∙ pack-spot s'.in_use (take i sizes) places.region size c.pack fits ∙ ap (λ (xs : List Row). address_in xs (place (end_from 0 (take i sizes)) size)) (sym rows) in
@@ -295,8 +315,8 @@ module _ (cs : List Class) (m : Memory) (t : ℕ) (s : Lists) (raws : Raws) (fro
           let pages-new : (p : ℕ) → list_any (holds_page p) s2.in_use ≡ (list_any (holds_page p) s'.in_use || covers to.0 size p) = λ p. in_use-grown s' s2 to.0 size p fits places in
           let ps : places_from 0 (take (i + 1) sizes) ≡ places_from 0 (take i sizes) ++ place (end_from 0 (take i sizes)) size ∷ [] = ap (places_from 0) (sizes-more i below) ∙ places-more 0 (take i sizes) size in
           record {
-            held = subst (λ (k : ℕ). HoldsRegions cs new t s2 (moved raws froms tos' k)) (sym e) (subst (HoldsRegions cs new t s2) step held);
-            moves = subst (λ (k : ℕ). AreMoved raws (moved raws froms tos' k) froms tos' k) (sym e) next;
+            held = subst (HoldsRegions cs new t s2) on.is held;
+            moves = on.moves;
             pack = subst (λ (xs : List Row). Pack xs (take (i + 1) sizes)) (sym rows) (subst (Pack (with_object s'.in_use places.region size)) (sym (sizes-more i below)) (pack-more s'.in_use (take i sizes) places.region size c.pack fits));
             places =
                 ap (map (λ (a : Addr). a.0)) (take_more_set tos i to there) ∙ map-append (λ (a : Addr). a.0) (take i tos) (to ∷ [])

@@ -1,10 +1,11 @@
 -- References of many objects that are turned, one object after the other.
-use Rattle.std.proofs.Common.{◌≡◌, ◌∙◌, ℕ, zero, suc, ◌+◌, ◌%◌, ◌<◌, ◌≤◌, Bool, true, false, List, [], ◌∷◌, ◌++◌, Option, Some, None, IsTrue, refl, sym, ap, inl, inr, arith, length, map, take, drop, get_or, nat_eq}
+use Rattle.std.proofs.Common.{◌≡◌, ◌∙◌, ℕ, zero, suc, ◌+◌, ◌%◌, ◌<◌, ◌≤◌, Bool, true, false, List, [], ◌∷◌, ◌++◌, Option, Some, None, IsTrue, refl, sym, ap, subst, inl, inr, arith, length, map, take, drop, get_or, nat_eq}
 use Rattle.std.specs.Prelude.{◌||◌}
-use Rattle.std.specs.List.{list_any}
+use Rattle.std.specs.List.{list_any, sum_by}
 use Rattle.std.proofs.lemmas.Bool.{cases_Bool, cases_eq, cases_order, eq-eqb, eqb-true, or_cases, or_left, or_right, true≢false}
 use Rattle.std.proofs.lemmas.List.{drop_more, get_or_at, length-map, length-take-le}
 use Rattle.std.proofs.lemmas.List.Folds.{list_any-append}
+use Rattle.std.proofs.lemmas.List.Sums.{sum_by-cons, sum_by_more}
 use Rattle.std.proofs.Math.Seq.{take-suc}
 use Rattle.class_layout.specs.declared.kind.Kind.TheVariants.{Ref}
 use Rattle.class_layout.specs.declared.kind.FieldAt.{FieldAt}
@@ -21,6 +22,8 @@ use Rattle.object_view.specs.declared.names.Slot.{Slot}
 use Rattle.object_view.specs.Changes.{pages_in, AreAlone}
 use Rattle.object_view.specs.Objects.{reference_count, reference_place}
 use Rattle.object_view.proofs.Laid.{place-within, reference-in, size-bounds}
+use Rattle.object_view.proofs.Rises.{rose-both}
+use Rattle.object_view.specs.Seen.{RoseBy}
 use Rattle.object_view.proofs.References.{references-found}
 use Rattle.raw_objects.specs.Keeps.{Keeps}
 use Rattle.raw_objects.specs.Raws.{raw_size, HoldsRaws, Raws}
@@ -28,8 +31,8 @@ use Rattle.raw_objects.specs.References.{is_first_reference, is_reference, stand
 use Rattle.raw_objects.proofs.Kept.{space-page}
 use Rattle.raw_objects.proofs.Raws.{raws-same}
 use Rattle.raw_objects.proofs.Turned.{same-turned, slot-place}
-use Rattle.object_moves.specs.Copies.{at_of}
-use Rattle.object_moves.specs.Turns.{gone_to, is_reference_at, is_reference_of, is_slot_of, slot_of, AreSlotsIn, AreTurnable, ObjectsAlone}
+use Rattle.object_moves.specs.Copies.{at_of, sizes_at}
+use Rattle.object_moves.specs.Turns.{gone_to, is_reference_at, is_reference_of, is_slot_of, reads_to_turn, slot_of, AreSlotsIn, AreTurnable, ObjectsAlone}
 
 -- WHERE REFERENCES STAND
 
@@ -95,6 +98,13 @@ any-of test (x ∷ xs) (suc i) d le is = elim (or_cases (test x) (list_any test 
   | inr there ↦ let it = any-of test xs i d (omega (arith, le)) there in (suc it.0, omega (arith, it.1), it.2)
 ]
 
+-- what the objects cost one by one
+reads-total : (cs : List Class) (raws : Raws) (ats : List Addr) → reads_to_turn cs raws ats ≡ sum_by (λ (a : Addr). raw_size cs raws a.0 + 16) ats
+reads-total cs raws [] = refl
+reads-total cs raws (a ∷ ats) =
+    sum_by-cons (λ (n : ℕ). n) (raw_size cs raws a.0 + 16) (map (λ (size : ℕ). size + 16) (sizes_at cs raws ats)) ∙ ap (λ n. raw_size cs raws a.0 + 16 + n) (reads-total cs raws ats)
+    ∙ sym (sum_by-cons (λ (it : Addr). raw_size cs raws it.0 + 16) a ats)
+
 module _ (cs : List Class) (raws : Raws) (done : ℕ → Bool) (ats : List Addr) (ok : AreTurnable cs raws done ats) where
   abbrev none : Addr
   none = record { 0 = 0 }
@@ -134,6 +144,13 @@ module _ (cs : List Class) (raws : Raws) (done : ℕ → Bool) (ats : List Addr)
       let b : ℕ = a + p.offset in
       or-swap (is_reference_at cs raws b (at_of ats i)) (is_reference_of cs raws (take i ats) b) (done b)
       ∙ ap (λ x. x || done b) (sym (any-more (λ (it : Addr). is_reference_at cs raws b it.0) ats i none below))))
+
+  -- so many reads more turn it
+  pub reads-next : (i before mid now : ℕ) → i < length ats → RoseBy (reads_to_turn cs raws (take i ats)) before mid → RoseBy (raw_size cs raws (at_of ats i) + 16) mid now → RoseBy (reads_to_turn cs raws (take (i + 1) ats)) before now
+  reads-next i before mid now below rose more =
+      let more_by = sum_by_more (λ (a : Addr). raw_size cs raws a.0 + 16) ats i none below in
+      let e : reads_to_turn cs raws (take i ats) + (raw_size cs raws (at_of ats i) + 16) ≡ reads_to_turn cs raws (take (i + 1) ats) = omega (arith, more_by, reads-total cs raws (take i ats), reads-total cs raws (take (i + 1) ats)) in
+      subst (λ n. RoseBy n before now) e (rose-both _ _ before mid now rose more)
 
   -- and its pages have their frames alone still
   pub next-alone : (m n : Memory) (t i : ℕ) → i < length ats → HoldsRaws cs (view_of n t) (turned_where raws (turned_to i)) → Keeps m n t (λ p. true) → HoldsRaws cs (view_of m t) (turned_where raws done) → ObjectsAlone cs m t raws ats

@@ -167,7 +167,7 @@ filled-window s p space is =
     ]
 
 -- a page of an object's bytes is covered by it
-covered-page : (to size p : ℕ) → 0 < size → page_of to ≤ p → p < page_of to + pages_in to (to + size) → covers to size p ≡ true
+pub covered-page : (to size p : ℕ) → 0 < size → page_of to ≤ p → p < page_of to + pages_in to (to + size) → covers to size p ≡ true
 covered-page to size p some low high =
     let count : pages_in to (to + size) ≡ page_of (to + size - 1) + 1 - page_of to = ap (λ b. cond {A = ℕ} b (page_of (to + size - 1) + 1 - page_of to) 0) (lt-ltb to (to + size) (omega (arith, some))) in
     and_from _ _ (le-leb (page_of to) p low) (le-leb p (page_of (to + size - 1)) (omega (arith, count, high)))

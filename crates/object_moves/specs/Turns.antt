@@ -1,5 +1,5 @@
 -- References of several objects that are turned to where their targets went.
-use Rattle.std.specs.Prelude.{◌≡◌, ◌≢◌, ℕ, ◌+◌, ◌<◌, Bool, true, false, nat_eq, List, length, slice_index_or}
+use Rattle.std.specs.Prelude.{◌≡◌, ◌≢◌, ℕ, ◌+◌, ◌<◌, Bool, true, false, nat_eq, List, length, map, sum, slice_index_or}
 use Rattle.std.specs.List.{list_any}
 use Rattle.class_layout.specs.declared.kind.Kind.TheVariants.{Ref}
 use Rattle.class_layout.specs.declared.kind.FieldAt.{FieldAt}
@@ -14,7 +14,7 @@ use Rattle.object_view.specs.Changes.{pages_in, AreAlone}
 use Rattle.raw_objects.specs.Keeps.{Covers}
 use Rattle.raw_objects.specs.Raws.{raw_size, Raws}
 use Rattle.raw_objects.specs.References.{goes, in_regions, is_reference, IsSlotIn, IsTarget}
-use Rattle.object_moves.specs.Copies.{at_of}
+use Rattle.object_moves.specs.Copies.{at_of, sizes_at}
 
 -- a reference of the object at the address stands at b
 abbrev pub is_reference_at : List Class → Raws → ℕ → ℕ → Bool
@@ -38,6 +38,10 @@ ObjectsAlone cs m t raws ats = (i : ℕ) → i < length ats → AreAlone m t (pa
 -- each page of these objects passes the test
 abbrev pub ObjectsWithin : List Class → (ℕ → Bool) → Raws → List Addr → Type 0
 ObjectsWithin cs may raws ats = (i : ℕ) → i < length ats → Covers may (at_of ats i) (raw_size cs raws (at_of ats i))
+
+-- at most so many reads turn these objects, wherever they stand: 4 for each 4 bytes of an object, and 16 more
+abbrev pub reads_to_turn : List Class → Raws → List Addr → ℕ
+reads_to_turn cs raws ats = sum (map (λ (size : ℕ). size + 16) (sizes_at cs raws ats))
 
 -- the i-th of the slots
 abbrev pub slot_of : List Slot → ℕ → Slot

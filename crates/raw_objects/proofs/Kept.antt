@@ -71,14 +71,14 @@ own-page old new t first n pages sound same q = by (page_at new t q) refl (page_
 
 -- nothing was done
 pub keeps-none : (m : Memory) (t : ℕ) (may : ℕ → Bool) → Keeps m m t may
-keeps-none m t may = record { mapped = λ q. refl; alone = λ q is one. one; written = λ q is. is; others = λ u q off. refl; live = λ u. refl; own = λ q. inl refl; room = λ all. room-same m }
+keeps-none m t may = record { mapped = λ q. refl; alone = λ q is one. one; frames = λ q is one. refl; written = λ q is. is; others = λ u q off. refl; live = λ u. refl; own = λ q. inl refl; room = λ all. room-same m }
 
 pub keeps-same : (old new : Memory) (t : ℕ) (may : ℕ → Bool) → new ≡ old → Keeps old new t may
 keeps-same old new t may e = subst (λ m. Keeps old m t may) (sym e) (keeps-none old t may)
 
 -- only the count of reads changed
 pub keeps-reads : (old : Memory) (t n : ℕ) (may : ℕ → Bool) → Keeps old (record old { reads = n }) t may
-keeps-reads old t n may = record { mapped = λ q. refl; alone = λ q is one. one; written = λ q is. is; others = λ u q off. refl; live = λ u. refl; own = λ q. inl refl; room = λ all. room-reads old old n (room-same old) }
+keeps-reads old t n may = record { mapped = λ q. refl; alone = λ q is one. one; frames = λ q is one. refl; written = λ q is. is; others = λ u q off. refl; live = λ u. refl; own = λ q. inl refl; room = λ all. room-reads old old n (room-same old) }
 
 pub keeps-read : (old new : Memory) (t n : ℕ) (may : ℕ → Bool) → new ≡ record old { reads = n } → Keeps old new t may
 keeps-read old new t n may e = subst (λ m. Keeps old m t may) (sym e) (keeps-reads old t n may)
@@ -95,6 +95,7 @@ pub keeps-then : (a b c : Memory) (t : ℕ) (may : ℕ → Bool) → Keeps a b t
 keeps-then a b c t may one two = record {
   mapped = λ q. two.mapped q ∙ one.mapped q;
   alone = λ q is alone. two.alone q (one.mapped q ∙ is) (one.alone q is alone);
+  frames = λ q is alone. two.frames q (one.mapped q ∙ is) (one.alone q is alone) ∙ one.frames q is alone;
   written = λ q is. two.written q (one.written q is);
   others = λ u q off. two.others u q off ∙ one.others u q off;
   live = λ u. two.live u ∙ one.live u;
@@ -125,6 +126,7 @@ pub keeps-wider : (old new : Memory) (t : ℕ) (may more : ℕ → Bool) → Kee
 keeps-wider old new t may more k wider = record {
   mapped = k.mapped;
   alone = k.alone;
+  frames = k.frames;
   written = k.written;
   others = λ u q off. k.others u q (elim off [ inl ne ↦ inl ne | inr out ↦ inr (off-wider may more q wider out) ]);
   live = k.live;
@@ -148,6 +150,7 @@ pub keeps-pages : (old new : Memory) (t first n : ℕ) (may : ℕ → Bool) → 
 keeps-pages old new t first n may pages sound same there flags covers = record {
   mapped = same;
   alone = λ q is one. (alone-stays old new t first n pages t q is (same q ∙ is) one).1;
+  frames = λ q is one. (alone-stays old new t first n pages t q is (same q ∙ is) one).0;
   written = λ q is. elim (cases_lt q first) [
     | inl before ↦ (frame-beside old new t first n pages t q (inr (inl before))).1 ∙ is
     | inr low ↦ elim (cases_lt q (first + n)) [ inl high ↦ flags q low high is | inr behind ↦ (frame-beside old new t first n pages t q (inr (inr behind))).1 ∙ is ]

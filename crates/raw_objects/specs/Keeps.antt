@@ -11,6 +11,8 @@ pub record Keeps (old new : Memory) (t : ℕ) (may : ℕ → Bool) : Type 0 wher
   pub mapped : (q : ℕ) → is_mapped new t q ≡ is_mapped old t q
   -- a page that has its frame alone keeps it alone
   pub alone : (q : ℕ) → IsTrue (is_mapped old t q) → HasOneSharer old t q → HasOneSharer new t q
+  -- a mapped page that has its frame alone keeps that frame
+  pub frames : (q : ℕ) → IsTrue (is_mapped old t q) → HasOneSharer old t q → frame_at new t q ≡ frame_at old t q
   -- a flag that is set stays set
   pub written : (q : ℕ) → IsTrue (is_written old t q) → IsTrue (is_written new t q)
   -- every other page of any table is as it was, with its bytes, flag and frame

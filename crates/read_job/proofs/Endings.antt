@@ -1,9 +1,6 @@
 -- What is put of a text.
-use Rattle.std.proofs.Common.{◌≡◌, inr, ℕ, Bool, true, false, List, Option, Result, Ok, Err, MatchResult, refl}
+use Rattle.std.proofs.Common.{◌≡◌, inr, ℕ, Bool, true, false, List, Option, None, Result, Ok, Err, MatchResult}
 use Rattle.ah_outside.specs.Outside.{FaultRose}
-use Rattle.hprof_read.specs.declared.read_error.ReadError.{ReadError}
-use Rattle.hprof_read.specs.Fault.{IsFirstFault}
-use Rattle.hprof_read.specs.declared.read_error.ReadError.TheVariants.{OutOfMemory}
 use Rattle.job_status.proofs.Inputs.{few_given}
 use Rattle.job_status.specs.declared.status.Status.{Status}
 use Rattle.job_status.specs.declared.status.Status.TheVariants as status
@@ -12,17 +9,18 @@ use Rattle.job_status.specs.declared.stop.Stop.TheVariants.{Read, Write, Shelf, 
 use Rattle.job_status.specs.Inputs.{HasFewLeft}
 use Rattle.job_status.specs.Status.{stop_status}
 use Rattle.read_job.specs.declared.question.Question.{Question}
-use Rattle.read_job.specs.Ends.{EndedRead, EndsTold, Streams, TookAll, fault_line, streams_of}
+use Rattle.read_job.specs.Ends.{EndedRead, EndsTold, Streams, TellsFault, TookAll, line_of, streams_of}
 use Rattle.read_job.specs.Telling.{StoppedFault, StoppedTelling, Told, read_status}
 
--- where the line of a fault wasn't put whole, neither was the answer to a text with this first fault
-pub stops_telling : (question : Question) (stop : Stop) (e : ReadError) (text : List ℕ) (held : Option (List ℕ)) (writes : ℕ) (held' : Option (List ℕ)) (writes' : ℕ)
-    → ((e ≡ OutOfMemory → ⊥) → IsFirstFault e text) → StoppedFault stop e held writes held' writes' → StoppedTelling question stop text held writes held' writes'
-stops_telling question Read e text held writes held' writes' first s = absurd s
-stops_telling question Write e text held writes held' writes' first s = (fault_line e, (inr (e, (first s.0, refl)), s.1, s.2))
-stops_telling question Shelf e text held writes held' writes' first s = absurd s
-stops_telling question Memory e text held writes held' writes' first s = s
-stops_telling question TooLong e text held writes held' writes' first s = absurd s
+-- where the line of a fault wasn't put whole, neither was the answer to a text with this fault
+pub stops_telling : (question : Question) (stop : Stop) (fault : Option (ℕ × ℕ)) (text : List ℕ) (held : Option (List ℕ)) (writes : ℕ) (held' : Option (List ℕ)) (writes' : ℕ)
+    → ((fault ≡ None → ⊥) → TellsFault question text (line_of fault)) → StoppedFault stop fault held writes held' writes'
+    → StoppedTelling question stop text held writes held' writes'
+stops_telling question Read fault text held writes held' writes' tells s = absurd s
+stops_telling question Write fault text held writes held' writes' tells s = (line_of fault, (inr (tells s.0), s.1, s.2))
+stops_telling question Shelf fault text held writes held' writes' tells s = absurd s
+stops_telling question Memory fault text held writes held' writes' tells s = s
+stops_telling question TooLong fault text held writes held' writes' tells s = absurd s
 
 -- the input was taken, and then the answer to it was put, or not wholly
 module _ (question : Question) (text : List ℕ) (left : Option (List ℕ)) (reads : ℕ) (held : Option (List ℕ)) (writes : ℕ) (left' : Option (List ℕ)) (reads' : ℕ) (held' : Option (List ℕ)) (writes' : ℕ)

@@ -1,3 +1,4 @@
 mod Endings
+mod FaultLines
 mod OneAnswer
 mod Taking

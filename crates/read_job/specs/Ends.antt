@@ -3,6 +3,8 @@ use Rattle.std.specs.Prelude.{◌≡◌, ◌⊎◌, ℕ, ◌+◌, ◌<◌, ◌�
 use Rattle.std.specs.List.{concat}
 use Rattle.ah_outside.specs.Outside.{FaultRose, Gave, Gained, GainedPrefix}
 use Rattle.dump_graph.specs.Graph.{graph, parts}
+use Rattle.hprof_convert.specs.Converted.{converted}
+use Rattle.hprof_convert.specs.Missing.{missing_layout}
 use Rattle.hprof_list.specs.Listing.{listing}
 use Rattle.hprof_read.specs.declared.read_error.ReadError.{ReadError}
 use Rattle.hprof_read.specs.declared.read_error.ReadError.TheVariants.{Magic, IdSize, CutShort, UnknownTag, PastEnd, BadType, OutOfMemory}
@@ -10,12 +12,17 @@ use Rattle.hprof_read.specs.Fault.{IsFirstFault}
 use Rattle.hprof_records.specs.declared.top_record.TopRecord.{TopRecord}
 use Rattle.hprof_records.specs.Dump.{AreRecords}
 use Rattle.hprof_records.specs.Records.{dump_bytes}
+use Rattle.hprof_wide.specs.declared.wide_error.WideError.{WideError}
+use Rattle.hprof_wide.specs.declared.wide_error.WideError.TheVariants as wide
+use Rattle.hprof_wide.specs.declared.wide_top.WideTop.{WideTop}
+use Rattle.hprof_wide.specs.Dump.{IsWideDumpOf}
+use Rattle.hprof_wide.specs.Fault.{IsFirstWideFault}
 use Rattle.job_status.specs.declared.status.Status.{Status}
 use Rattle.job_status.specs.declared.status.Status.TheVariants as status
 use Rattle.job_status.specs.Inputs.{NothingLeft}
 use Rattle.model_numbers.specs.Numbers.{input_limit, piece_bytes}
 use Rattle.read_job.specs.declared.question.Question.{Question}
-use Rattle.read_job.specs.declared.question.Question.TheVariants.{Listing, Path}
+use Rattle.read_job.specs.declared.question.Question.TheVariants.{Listing, Path, Converted}
 use Rattle.root_paths.specs.Answer.{answer}
 
 -- what a reading changes: the bytes that the source has left, where it tells them, its count of faults, the bytes that
@@ -43,16 +50,29 @@ pub record TookTooMany (old new : Streams) : Type 0 where
   pub too_many : input_limit < length taken
   pub barely : length taken ≤ input_limit + piece_bytes
 
--- what is told of the dump of a time and records: its listing, or a path to an object
-abbrev pub told_of : Question → ℕ → List TopRecord → List ℕ
-told_of Listing time records = listing time records
-told_of (Path id) time records = answer (graph (parts records)) id
-
--- the text is a dump, and this is what is told of it
-abbrev pub IsTold : Question → List ℕ → List ℕ → Type 0
-IsTold question text put =
+-- the text is a dump, and this is what is told of its time and its records
+abbrev pub TellsDump : (ℕ → List TopRecord → List ℕ) → List ℕ → List ℕ → Type 0
+TellsDump told text put =
     (time : ℕ) × (records : List TopRecord)
-    × ((time < 2 ^ 64) × AreRecords records × (text ≡ dump_bytes time records) × (put ≡ told_of question time records))
+    × ((time < 2 ^ 64) × AreRecords records × (text ≡ dump_bytes time records) × (put ≡ told time records))
+
+-- the text is a wide dump in which each instance has a layout, and these are the bytes of the dump that it is converted
+-- to, whose records are well formed
+abbrev pub TellsConverted : List ℕ → List ℕ → Type 0
+TellsConverted text put =
+    (w : ℕ) × (time : ℕ) × (records : List WideTop)
+    × (IsWideDumpOf w time records text × (missing_layout w records ≡ None) × AreRecords (converted w records)
+    × (put ≡ dump_bytes time (converted w records)))
+
+-- what is told of the dump of a time and records: a path to an object
+abbrev pub path_told : ℕ → ℕ → List TopRecord → List ℕ
+path_told id time records = answer (graph (parts records)) id
+
+-- the text is a dump, or for a conversion a wide one, and this is what is told of it
+abbrev pub IsTold : Question → List ℕ → List ℕ → Type 0
+IsTold Listing text put = TellsDump listing text put
+IsTold (Path id) text put = TellsDump (path_told id) text put
+IsTold Converted text put = TellsConverted text put
 
 -- the line that tells a fault by its number and its offset
 abbrev pub numbered_line : ℕ → ℕ → List ℕ
@@ -78,22 +98,52 @@ abbrev pub fault_line : ReadError → List ℕ
 fault_line e = line_of (fault_number e)
 
 -- the text is no dump, and this is the line that tells its first fault
-abbrev pub TellsFault : List ℕ → List ℕ → Type 0
-TellsFault text put = (e : ReadError) × (IsFirstFault e text × (put ≡ fault_line e))
+abbrev pub TellsDumpFault : List ℕ → List ℕ → Type 0
+TellsDumpFault text put = (e : ReadError) × (IsFirstFault e text × (put ≡ fault_line e))
 
--- the whole input was taken, it is a dump, and what is told of it was put
+-- the number of a wide dump's fault, and its offset; want of memory is no fault
+abbrev pub wide_fault_number : WideError → Option (ℕ × ℕ)
+wide_fault_number (wide.Magic offset) = Some (1, offset)
+wide_fault_number (wide.IdSize offset) = Some (2, offset)
+wide_fault_number (wide.CutShort offset) = Some (3, offset)
+wide_fault_number (wide.UnknownTag offset) = Some (4, offset)
+wide_fault_number (wide.PastEnd offset) = Some (5, offset)
+wide_fault_number (wide.BadType offset) = Some (6, offset)
+wide_fault_number wide.OutOfMemory = None
+
+-- the line that tells a wide dump's fault
+abbrev pub wide_fault_line : WideError → List ℕ
+wide_fault_line e = line_of (wide_fault_number e)
+
+-- the text is no wide dump, and this is the line that tells its first fault
+abbrev pub TellsWideFault : List ℕ → List ℕ → Type 0
+TellsWideFault text put = (e : WideError) × (IsFirstWideFault e text × (put ≡ wide_fault_line e))
+
+-- the text is a wide dump, and this is the line that tells the place of its first instance without a layout
+abbrev pub TellsMissing : List ℕ → List ℕ → Type 0
+TellsMissing text put =
+    (w : ℕ) × (time : ℕ) × (records : List WideTop) × (offset : ℕ)
+    × (IsWideDumpOf w time records text × (missing_layout w records ≡ Some offset) × (put ≡ numbered_line 7 offset))
+
+-- nothing but a fault can be told of the text, and this is the line that tells it
+abbrev pub TellsFault : Question → List ℕ → List ℕ → Type 0
+TellsFault Listing text put = TellsDumpFault text put
+TellsFault (Path id) text put = TellsDumpFault text put
+TellsFault Converted text put = TellsWideFault text put ⊎ TellsMissing text put
+
+-- the whole input was taken, it is a dump of the kind that is asked for, and what is told of it was put
 abbrev pub ToldDump : Question → Streams → Streams → Type 0
 ToldDump question old new = (text : List ℕ) × (put : List ℕ) × (TookAll text old new × IsTold question text put × Gained old.gained put new.gained)
 
--- the whole input was taken, it is no dump, and the line that tells its first fault was put
-abbrev pub ToldFault : Streams → Streams → Type 0
-ToldFault old new = (text : List ℕ) × (put : List ℕ) × (TookAll text old new × TellsFault text put × Gained old.gained put new.gained)
+-- the whole input was taken, and the line that tells its fault was put
+abbrev pub ToldFault : Question → Streams → Streams → Type 0
+ToldFault question old new = (text : List ℕ) × (put : List ℕ) × (TookAll text old new × TellsFault question text put × Gained old.gained put new.gained)
 
 -- the whole input was taken, and some first bytes were put of what is put of it, maybe none and maybe all
 abbrev pub ToldInPart : Question → Streams → Streams → Type 0
 ToldInPart question old new =
     (text : List ℕ) × (put : List ℕ)
-    × (TookAll text old new × (IsTold question text put ⊎ TellsFault text put) × GainedPrefix old.gained put new.gained)
+    × (TookAll text old new × (IsTold question text put ⊎ TellsFault question text put) × GainedPrefix old.gained put new.gained)
 
 -- what a reading leaves, by its status
 abbrev pub EndedRead : Question → Status → Streams → Streams → Type 0
@@ -104,7 +154,7 @@ EndedRead question status.ReadFault old new = FaultRose old.read_faults new.read
 EndedRead question status.WriteFault old new = ToldInPart question old new × FaultRose old.write_faults new.write_faults
 EndedRead question status.OutOfMemory old new = new.gained ≡ old.gained
 EndedRead question status.ShelfFault old new = ⊥
-EndedRead question status.NotDump old new = ToldFault old new
+EndedRead question status.NotDump old new = ToldFault question old new
 EndedRead question status.TooLong old new = TookTooMany old new × (new.gained ≡ old.gained)
 
 -- the answers of a reading that was not stopped by a fault or by its input's length

@@ -1,14 +1,16 @@
-//! The reading of a dump: the whole input is taken from a source, and what is asked of it, its listing or a path to an
-//! object, or the line that tells its first fault, is put to a sink.
+//! The reading of a dump: the whole input is taken from a source, and what is asked of it, its listing, a path to an
+//! object or the dump that it is converted to, or the line that tells its fault, is put to a sink.
 #![tactic(auto)]
 
+mod dumps;
 mod examples;
+mod faults;
 mod input;
 mod laws;
 mod question;
 mod reading;
 mod told;
 
-pub use laws::one_answer;
+pub use laws::{conversions_are_dumps, one_answer};
 pub use question::Question;
 pub use reading::answer_input;

@@ -1,8 +1,10 @@
-/// What is asked of a dump.
+/// What is asked of an input.
 #[derive(Clone, Copy, Debug, PartialEq, Eq)]
 pub enum Question {
-    /// Its listing.
+    /// The listing of a dump.
     Listing,
-    /// A shortest path from a root to the object or class with this identifier.
+    /// A shortest path in a dump, from a root to the object or class with this identifier.
     Path { id: u32 },
+    /// The dump of 1.0.3 with identifiers of 4 bytes that a wide dump is converted to.
+    Converted,
 }

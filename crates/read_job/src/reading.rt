@@ -12,7 +12,7 @@ use ah_outside::{Sink, Source};
 use job_status::{Status, Stop};
 use std::alloc::Global;
 
-/// The status of a reading that tells whether the text is a dump, or why it stopped.
+/// The status of a reading that tells whether the text is what was asked, or why it stopped.
 fn read_status(ended: Result<bool, Stop>) -> Status
     ensures { result ≡ read_status ended }
 {
@@ -23,7 +23,7 @@ fn read_status(ended: Result<bool, Stop>) -> Status
     }
 }
 
-/// Takes the input, and puts what is to be told of it. Tells whether it is a dump.
+/// Takes the input, and puts what is to be told of it. Tells whether it is what was asked.
 fn take_and_tell<S: Source, W: Sink>(
     alloc: Global,
     question: Question,
@@ -41,9 +41,12 @@ fn take_and_tell<S: Source, W: Sink>(
 }
 
 /// Reads a dump of at most 268,435,456 bytes from the source, at most 4,096 bytes at a time, and puts what is asked of it:
-/// its listing, or a shortest path from a root to an object. Where the input is no dump, the one line
-/// `not a dump: Hk at OFFSET` is put, which tells its first fault by the fault's number and offset. Nothing is put before
-/// the whole input was taken. The input is kept once, and besides it the dump's records, and for a path its graph.
+/// its listing, or a shortest path from a root to an object. For a conversion the dump is a wide one, of 1.0.2 or 1.0.3
+/// with identifiers of 4 or 8 bytes, and the bytes of the dump that it is converted to are put. Where the input is no such
+/// dump, the one line `not a dump: Hk at OFFSET` is put, which tells its first fault by the fault's number, H1 to H6, and
+/// offset. H7 is told of a wide dump with the offset of its first instance without a layout. Nothing is put before the
+/// whole input was taken. The input is kept once, and besides it the dump's records while they are read; for a path then
+/// its graph, and for a conversion the records of both dumps.
 pub fn answer_input<S: Source, W: Sink>(
     alloc: Global,
     question: Question,

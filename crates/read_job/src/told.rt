@@ -1,17 +1,17 @@
-//! What is put of a text: what is asked of it where it is a dump, and else the line that tells its first fault.
-ghost use Rattle.std.specs.Prelude.{◌≡◌, ◌≢◌, ◌<◌, ◌≤◌, ◌^◌, IfErr, IfOk, MatchResult};
+//! What is put of a text: what is asked of it, and else the line that tells its fault.
+ghost use Rattle.std.specs.Prelude.{◌≡◌, ◌≢◌, ◌≤◌, MatchResult, None};
 ghost use Rattle.ah_outside.specs.Outside.{Gained};
 ghost use Rattle.hprof_list.specs.Putting.{Puts};
-ghost use Rattle.hprof_read.specs.Fault.{IsFirstFault};
 ghost use Rattle.hprof_records.specs.Dump.{AreRecords};
-ghost use Rattle.hprof_records.specs.Records.{dump_bytes};
-ghost use Rattle.read_job.specs.Ends.{fault_line, fault_number, numbered_line, told_of};
-ghost use Rattle.read_job.specs.Telling.{StoppedDump, StoppedFault, StoppedTelling, Told};
+ghost use Rattle.read_job.specs.Ends.{line_of, numbered_line};
+ghost use Rattle.read_job.specs.Telling.{StoppedDump, StoppedFault, StoppedTelling, Told, told_of};
 
 use crate::Question;
+use crate::dumps::dump_of;
 use ah_outside::{Failed, Sink};
+use hprof_bytes::write_bytes;
 use hprof_list::{put_pieces, write_listing};
-use hprof_read::{Dump, ReadError, read_dump};
+use hprof_read::Dump;
 use itoa::Buffer;
 use job_status::Stop;
 use root_paths::{PathError, find_path};
@@ -35,29 +35,14 @@ fn put_numbered<W: Sink>(sink: &mut W, number: u8, offset: u64) -> Result<(), Fa
     )
 }
 
-/// The number of a fault and its offset. Want of memory is no fault.
-fn fault_number(error: ReadError) -> Option<(u8, u64)>
-    ensures { result ≡ fault_number error }
-{
-    match error {
-        ReadError::Magic { offset } => Some((1, offset)),
-        ReadError::IdSize { offset } => Some((2, offset)),
-        ReadError::CutShort { offset } => Some((3, offset)),
-        ReadError::UnknownTag { offset } => Some((4, offset)),
-        ReadError::PastEnd { offset } => Some((5, offset)),
-        ReadError::BadType { offset } => Some((6, offset)),
-        ReadError::OutOfMemory => None,
-    }
-}
-
-/// Puts the line that tells a fault.
-fn put_fault<W: Sink>(sink: &mut W, error: ReadError) -> Result<(), Stop>
+/// Puts the line that tells a fault's number and offset. Where they aren't there, memory was wanting.
+fn put_fault<W: Sink>(sink: &mut W, fault: Option<(u8, u64)>) -> Result<(), Stop>
     ensures told { MatchResult result
-        (λ _. (error ≢ ReadError.OutOfMemory) × Gained (W.gained sink.old) (fault_line error) (W.gained sink.new))
-        (λ stop. StoppedFault stop error (W.gained sink.old) (W.fault_count sink.old) (W.gained sink.new) (W.fault_count sink.new)) }
+        (λ _. (fault ≢ None) × Gained (W.gained sink.old) (line_of fault) (W.gained sink.new))
+        (λ stop. StoppedFault stop fault (W.gained sink.old) (W.fault_count sink.old) (W.gained sink.new) (W.fault_count sink.new)) }
     ensures never_falls { W.fault_count sink.old ≤ W.fault_count sink.new }
 {
-    let Some((number, offset)) = fault_number(error) else {
+    let Some((number, offset)) = fault else {
         return Err(Stop::Memory);
     };
     match put_numbered(sink, number, offset) {
@@ -73,6 +58,7 @@ fn tell_dump<W: Sink>(
     dump: &Dump,
     sink: &mut W,
 ) -> Result<(), Stop>
+    requires { AreRecords dump.now.top }
     ensures told { let d = dump.now in MatchResult result
         (λ _. Gained (W.gained sink.old) (told_of question d.time d.top) (W.gained sink.new))
         (λ stop. StoppedDump stop (told_of question d.time d.top) (W.gained sink.old) (W.fault_count sink.old) (W.gained sink.new) (W.fault_count sink.new)) }
@@ -88,19 +74,15 @@ fn tell_dump<W: Sink>(
             Err(PathError::SinkFault) => Err(Stop::Write),
             Err(PathError::OutOfMemory) => Err(Stop::Memory),
         },
+        Question::Converted => match write_bytes(dump, sink) {
+            Ok(()) => Ok(()),
+            Err(Failed) => Err(Stop::Write),
+        },
     }
 }
 
-/// The dump whose bytes a text has. The text is let go.
-fn dump_of(alloc: Global, text: Vec<u8>) -> Result<Dump, ReadError>
-    ensures dump { IfOk result (λ d. (d.time < 2 ^ 64) × AreRecords d.top × (text.items ≡ dump_bytes d.time d.top)) }
-    ensures fault { IfErr result (λ e. e ≢ ReadError.OutOfMemory → IsFirstFault e text.items) }
-{
-    read_dump(alloc, &text)
-}
-
-/// Puts what is asked of a text that is a dump, or the line that tells the first fault of another. Tells whether the text
-/// is a dump. The text is let go before its dump is told.
+/// Puts what is asked of a text, or the line that tells its fault. Tells whether it was what was asked. The text is let
+/// go before its dump is told.
 pub(crate) fn tell<W: Sink>(
     alloc: Global,
     question: Question,
@@ -112,13 +94,13 @@ pub(crate) fn tell<W: Sink>(
         (λ stop. StoppedTelling question stop text.items (W.gained sink.old) (W.fault_count sink.old) (W.gained sink.new) (W.fault_count sink.new)) }
     ensures never_falls { W.fault_count sink.old ≤ W.fault_count sink.new }
 {
-    match dump_of(alloc, text) {
+    match dump_of(alloc, question, text) {
         Ok(dump) => {
             tell_dump(alloc, question, &dump, sink)?;
             Ok(true)
         }
-        Err(error) => {
-            put_fault(sink, error)?;
+        Err(fault) => {
+            put_fault(sink, fault)?;
             Ok(false)
         }
     }

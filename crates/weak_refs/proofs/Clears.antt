@@ -72,7 +72,7 @@ module _ (old new : Memory) (t : ℕ) (ds : List ℕ) (c : ClearsSlots old new t
   mapped-after p is = let frame = written-frame new t p (c.written p is) in frame-mapped new t p frame.0 frame.1
 
   -- a page that had a frame of its own keeps it
-  frame-stays : (p : ℕ) → HasOneSharer old t p → frame_at new t p ≡ frame_at old t p
+  pub frame-stays : (p : ℕ) → HasOneSharer old t p → frame_at new t p ≡ frame_at old t p
   frame-stays p one = elim (cases_Bool (is_page_of ds p)) [
     | inr beside ↦ beside-frame t p (inr beside)
     | inl among ↦

@@ -8,10 +8,10 @@ use Rattle.std.proofs.lemmas.Option.{same_Some}
 use Rattle.image_space.specs.Space.{spots_from}
 use Rattle.image_space.proofs.SpotLemmas.{spots-split, sum-append, sum-cons}
 use Rattle.mark_bitmap.specs.Marks.{is_marked}
-use Rattle.zygote_space.specs.Space.{HasOpen, HasSegments, Opens, Places, Segment, Space, segment_end, segment_spots, segments_end, to_page, zygote_spot}
+use Rattle.zygote_space.specs.Space.{GainsSegment, HasOpen, HasSegments, Opens, Places, Segment, Space, segment_end, segment_spots, segments_end, to_page, zygote_spot}
 
 -- a segment that is open
-abbrev open_at : ℕ → ℕ → Option Segment
+abbrev pub open_at : ℕ → ℕ → Option Segment
 open_at next rest = Some (record { next = next; rest = rest })
 
 -- a segment more
@@ -85,3 +85,18 @@ closed old new segments sizes rest has is = record {
   fill = ap (λ (s : Space). s.fill) is ∙ has.fill ∙ sym (end-more 0 segments sizes);
   starts = λ q. ap (λ (s : Space). is_marked s.starts q) is ∙ has.starts q;
 }
+
+pub gained : (old new : Space) (segments : List (List ℕ)) (sizes : List ℕ) → HasSegments old segments → GainsSegment old new sizes → HasSegments new (segments ++ sizes ∷ [])
+gained old new segments sizes has gains =
+    let spots : ℕ → List ℕ = λ fill. spots_from (zygote_spot (to_page fill)) sizes in
+    record {
+      closed = gains.closed;
+      fill = gains.fill ∙ ap (λ fill. segment_end fill sizes) has.fill ∙ sym (end-more 0 segments sizes);
+      starts = λ q.
+          let test : ℕ → Bool = λ k. q == k in
+          gains.starts q
+          ∙ ap (λ b. b || list_any test (spots old.fill)) (has.starts q)
+          ∙ ap (λ fill. list_any test (segment_spots 0 segments) || list_any test (spots fill)) has.fill
+          ∙ sym (list_any-append test (segment_spots 0 segments) (spots (segments_end 0 segments)))
+          ∙ ap (list_any test) (sym (spots-more 0 segments sizes));
+    }

@@ -107,3 +107,9 @@ pub record HasOpen (s : Space) (segments : List (List ℕ)) (sizes : List ℕ) (
   pub segment : s.segment ≡ Some (record { next = to_page (segments_end 0 segments) + sum sizes; rest = rest })
   pub fill : s.fill ≡ segment_end (segments_end 0 segments) sizes
   pub starts : (q : ℕ) → is_marked s.starts q ≡ list_any (λ spot. q == spot) (segment_spots 0 (segments ++ sizes ∷ []))
+
+-- besides what stood, the space has a closed segment of objects of exactly these sizes, where there are some
+pub record GainsSegment (old new : Space) (sizes : List ℕ) : Type 0 where
+  pub closed : new.segment ≡ None
+  pub fill : new.fill ≡ segment_end old.fill sizes
+  pub starts : (q : ℕ) → is_marked new.starts q ≡ (is_marked old.starts q || list_any (λ spot. q == spot) (spots_from (zygote_spot (to_page old.fill)) sizes))

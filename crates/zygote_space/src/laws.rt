@@ -6,7 +6,7 @@ ghost use Rattle.cow_pages.specs.Memory.{Memory, is_mapped, page_at};
 ghost use Rattle.page_runs.specs.Covered.{covers};
 ghost use Rattle.image_space.specs.Space.{holds_first};
 ghost use Rattle.mark_bitmap.specs.Marks.{is_marked};
-ghost use Rattle.zygote_space.specs.Space.{Space, HasOpen, HasPagesUpTo, HasSegments, IsSpace, Opens, Places, end_of, to_page, zygote_spot};
+ghost use Rattle.zygote_space.specs.Space.{Space, GainsSegment, HasOpen, HasPagesUpTo, HasSegments, IsSpace, Opens, Places, end_of, to_page, zygote_spot};
 
 /// A space without bytes has no segments. One in which a segment is opened has an open one without objects, and one in
 /// which an object is placed has its size besides.
@@ -21,6 +21,11 @@ pub fn spaces_keep_segments()
 pub fn closing_ends_a_segment()
     ensures { (old new : Space) (segments : List (List ℕ)) (sizes : List ℕ) (rest : ℕ) → HasOpen old segments sizes rest
         → new ≡ record old { segment = None } → HasSegments new (segments ++ sizes ∷ []) }
+{}
+
+/// A segment that was added is the last of the closed ones.
+pub fn segments_are_gained()
+    ensures { (old new : Space) (segments : List (List ℕ)) (sizes : List ℕ) → HasSegments old segments → GainsSegment old new sizes → HasSegments new (segments ++ sizes ∷ []) }
 {}
 
 /// A table without pages has exactly those of a space without bytes.

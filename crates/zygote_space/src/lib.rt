@@ -5,6 +5,7 @@ mod laws;
 mod space;
 
 pub use laws::{
-    closing_ends_a_segment, new_tables_fit, pages_are_of_objects, spaces_keep_segments,
+    closing_ends_a_segment, new_tables_fit, pages_are_of_objects, segments_are_gained,
+    spaces_keep_segments,
 };
 pub use space::{ZygoteError, ZygoteSpace};

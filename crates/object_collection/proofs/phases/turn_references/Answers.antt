@@ -1,10 +1,12 @@
-use Rattle.std.proofs.Common.{ℕ, true, List, refl, sym, subst}
+use Rattle.std.proofs.Common.{◌∙◌, ℕ, true, List, refl, sym, ap, subst}
 use Rattle.class_layout.specs.ClassList.{Class}
 use Rattle.cow_pages.specs.Memory.{Memory}
 use Rattle.cow_pages.specs.View.{view_of}
+use Rattle.object_view.specs.Seen.{RoseBy}
 use Rattle.raw_objects.specs.Raws.{HoldsRaws, Raws}
 use Rattle.raw_objects.specs.References.{turned_where}
 use Rattle.raw_objects.proofs.Kept.{keeps-same, keeps-then}
+use Rattle.object_moves.specs.Turns.{reads_to_turn}
 use Rattle.object_collection.specs.Phases.{is_turned, none_turned, objects_turned, young_turned}
 use Rattle.object_collection.proofs.Turnings.{none-first, objects-alone, slots-alone}
 use Rattle.object_collection.proofs.phases.turn_references.Goals as goal
@@ -90,3 +92,11 @@ returns-clause-keeps c raws may ok young_within large_within slots_within =
     let again = c.turn_all-2.ensures.keeps raws (young_turned cs raws young) may second ok.large large_within in
     let slots = c.turn_slots.ensures.keeps may slots_within in
     keeps-then _ _ _ _ may (keeps-then _ _ _ _ may keeps again) (keeps-then _ _ _ _ may slots (keeps-same _ _ _ may c.turn_roots.ensures.same))
+
+pub returns-clause-bounded : goal.returns-clause-bounded
+returns-clause-bounded c sound high raws ok =
+    let cs : List Class = c.args.classes.now in
+    let first = none-first cs c.args.frames.now c.args.t.0 raws ok.holds in
+    let rose = c.turn_all.ensures.bounded sound raws none_turned first ok.young in
+    let rest = ap (λ (m : Memory). m.reads) c.turn_roots.ensures.same ∙ c.turn_slots.ensures.reads ∙ c.turn_all-2.ensures.reads high in
+    subst (RoseBy (reads_to_turn cs raws c.args.young.now) c.args.frames.now.reads) (sym rest) rose

@@ -14,4 +14,4 @@ returns-in_err-put_fault-in-Err-clause-told g c =
     let to = c.put_fault.new.sink in
     rw p.1
     (subst (λ (stop : Stop). StoppedTelling c.args.question stop c.args.text.items (told from) (puts from) (told to) (puts to)) (sym p.2)
-    (stops_telling c.args.question c.in_err-put_fault-in-Err.field-0.0 c.in-Err.error c.args.text.items (told from) (puts from) (told to) (puts to) c.in-Err.ensures.fault c.in_err-put_fault-in-Err.ensures.told))
+    (stops_telling c.args.question c.in_err-put_fault-in-Err.field-0.0 c.in-Err.fault c.args.text.items (told from) (puts from) (told to) (puts to) c.in-Err.ensures.fault c.in_err-put_fault-in-Err.ensures.told))

@@ -1,0 +1,10 @@
+pub mod OneCopy
+pub mod Filling
+pub mod AllCopies
+pub mod Walk
+pub mod Spots
+pub mod Opened
+pub mod Copied
+pub mod Final
+pub mod Called
+pub mod Planned
