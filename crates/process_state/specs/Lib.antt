@@ -1,0 +1,4 @@
+pub mod State
+pub mod Cards
+pub mod Stands
+pub mod Acts
