@@ -91,18 +91,18 @@ module _ (h : HeapState) (m : Memory) (t : ℕ) (g : Graph) (z : zygote.Space) (
   }
 
 -- a call that succeeds has room
-has-room : {T E : Type 0} (r : Result T E) (g : Graph) (x y : E) (C : Type 0) → (has_zygote_room g ≡ false → ((r ≡ Err x) ⊎ (r ≡ Err y)) × C) → OnOk r (has_zygote_room g ≡ true)
-has-room (Err e) g x y C full = tt
-has-room (Ok n) g x y C full = elim (cases_Bool (has_zygote_room g)) [
+has-room : {T E : Type 0} (r : Result T E) (g : Graph) (x : E) (C : Type 0) → (has_zygote_room g ≡ false → (r ≡ Err x) × C) → OnOk r (has_zygote_room g ≡ true)
+has-room (Err e) g x C full = tt
+has-room (Ok n) g x C full = elim (cases_Bool (has_zygote_room g)) [
   | inl e ↦ e
-  | inr off ↦ elim (full off).0 [ inl is ↦ absurd (cc) | inr is ↦ absurd (cc) ]
+  | inr off ↦ let is = (full off).0 in absurd (cc)
 ]
 
 -- so it has for each graph of which the call says when it is full
-pub rooms : {T E : Type 0} (r : Result T E) (P : Graph → Type 0) (x : Graph → E) (y : E) (C : Type 0)
-    → ((g : Graph) → P g → has_zygote_room g ≡ false → ((r ≡ Err (x g)) ⊎ (r ≡ Err y)) × C) → OnOk r ((g : Graph) → P g → has_zygote_room g ≡ true)
-rooms (Err e) P x y C full = tt
-rooms (Ok n) P x y C full = λ g it. has-room (Ok n) g (x g) y C (full g it)
+pub rooms : {T E : Type 0} (r : Result T E) (P : Graph → Type 0) (x : Graph → E) (C : Type 0)
+    → ((g : Graph) → P g → has_zygote_room g ≡ false → (r ≡ Err (x g)) × C) → OnOk r ((g : Graph) → P g → has_zygote_room g ≡ true)
+rooms (Err e) P x C full = tt
+rooms (Ok n) P x C full = λ g it. has-room (Ok n) g (x g) C (full g it)
 
 -- three facts of a call that succeeded give a fourth
 pub on_ok_three : {T E : Type 0} {A B C D : Type 0} (r : Result T E) → (A → B → C → D) → OnOk r A → OnOk r B → OnOk r C → OnOk r D

@@ -55,7 +55,7 @@ pub fn promote(
     ensures reads { OnOk result ((g : Graph) → KeepsGraph (state_of classes.now regions.old larges.old roots.old slots.now) frames.old t.0 g → HasSpots zygote.old g → RoseBy (promotion_allowance g) frames.old.reads frames.new.reads) }
     ensures only { OnlyTable frames.old frames.new t.0 }
     ensures full { (g : Graph) → KeepsGraph (state_of classes.now regions.old larges.old roots.old slots.now) frames.old t.0 g → HasSpots zygote.old g → has_zygote_room g ≡ false
-        → ((result ≡ Err (PromoteError.Full (promotion_start g) (promotion_bytes g))) ⊎ (result ≡ Err PromoteError.OutOfMemory)) × (frames.new ≡ frames.old) }
+        → (result ≡ Err (PromoteError.Full (promotion_start g) (promotion_bytes g))) × (frames.new ≡ frames.old) }
     ensures err { (g : Graph) → KeepsGraph (state_of classes.now regions.old larges.old roots.old slots.now) frames.old t.0 g → HasSpots zygote.old g → IfErr result (λ e. (has_zygote_room g ≡ false) ⊎ (e ≡ PromoteError.OutOfMemory)) }
     ensures same { OnErr result ((zygote.new ≡ zygote.old) × (regions.new ≡ regions.old) × (larges.new ≡ larges.old) × (roots.new ≡ roots.old)) }
     ensures same_pages { OnErr result ((g : Graph) → KeepsGraph (state_of classes.now regions.old larges.old roots.old slots.now) frames.old t.0 g → HasSpots zygote.old g → KeepsPages frames.old frames.new (pages_up_to (promotion_bytes g))) }

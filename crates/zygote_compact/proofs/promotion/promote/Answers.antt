@@ -1,4 +1,4 @@
-use Rattle.std.proofs.Common.{◌≡◌, ◌⊎◌, ◌∙◌, true, subst, inl, inr}
+use Rattle.std.proofs.Common.{◌≡◌, ◌∙◌, true, subst, inl, inr}
 use Rattle.std.specs.Prelude.{Err, OnOk}
 use Rattle.std.proofs.lemmas.Result.{IfErr-weaker, IfOk-weaker, on_err_weaker, on_ok_weaker}
 use Rattle.object_view.proofs.Outcomes.{on_ok_both}
@@ -7,7 +7,7 @@ use Rattle.heap_graph.specs.Graph.{Graph}
 use Rattle.image_space.specs.Space.{pages_up_to, KeepsPages}
 use Rattle.object_view.specs.Seen.{RoseBy}
 use Rattle.object_collection.specs.Collects.{state_of}
-use Rattle.object_promotion.specs.declared.promotion.PromoteError.TheVariants.{Full, OutOfMemory}
+use Rattle.object_promotion.specs.declared.promotion.PromoteError.TheVariants.{Full}
 use Rattle.object_promotion.specs.Promotes.{LeavesPages}
 use Rattle.zygote_space.specs.Space.{to_page}
 use Rattle.evacuate.specs.Stands.{homes_in, raws_of, KeepsGraph}
@@ -24,8 +24,8 @@ promote_objects-requires c = (raws_of (homes_in c.args.regions.now.in_use c.args
 pub returns-clause-full : goal.returns-clause-full
 returns-clause-full c g k s off =
     let it = c.promote_objects.ensures.full _ _ (can-promote _ _ _ g _ s k) (are-young _ _ _ g k.heap) (too-much _ _ _ g _ s k.heap off) in (
-      subst (λ n. (c.promote_objects.result ≡ Err (Full n (promotion_bytes g))) ⊎ (c.promote_objects.result ≡ Err OutOfMemory)) (start-is g _ s)
-          (subst (λ n. (c.promote_objects.result ≡ Err (Full (to_page c.args.zygote.now.fill) n)) ⊎ (c.promote_objects.result ≡ Err OutOfMemory)) (bytes-are _ _ _ g _ s k.heap) it.0),
+      subst (λ n. c.promote_objects.result ≡ Err (Full n (promotion_bytes g))) (start-is g _ s)
+          (subst (λ n. c.promote_objects.result ≡ Err (Full (to_page c.args.zygote.now.fill) n)) (bytes-are _ _ _ g _ s k.heap) it.0),
       it.1,
     )
 
@@ -33,7 +33,7 @@ returns-clause-full c g k s off =
 had-room : (c : goal.After-roots-1) → OnOk c.promote_objects.result ((g : Graph) → KeepsGraph (state_of c.args.classes.now c.args.regions.now c.args.larges.now c.args.roots.now c.args.slots.now) c.args.frames.now c.args.t.0 g × HasSpots c.args.zygote.now g → has_zygote_room g ≡ true)
 had-room c =
     rooms c.promote_objects.result (λ g. KeepsGraph (state_of c.args.classes.now c.args.regions.now c.args.larges.now c.args.roots.now c.args.slots.now) c.args.frames.now c.args.t.0 g × HasSpots c.args.zygote.now g)
-    (λ g. Full (promotion_start g) (promotion_bytes g)) OutOfMemory (c.promote_objects.new.frames ≡ c.args.frames.now) (λ g it off. returns-clause-full c g it.0 it.1 off)
+    (λ g. Full (promotion_start g) (promotion_bytes g)) (c.promote_objects.new.frames ≡ c.args.frames.now) (λ g it off. returns-clause-full c g it.0 it.1 off)
 
 pub returns-clause-held : goal.returns-clause-held
 returns-clause-held c =
