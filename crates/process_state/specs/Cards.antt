@@ -1,8 +1,8 @@
 -- Which cards a process knows of, and those of a part.
-use Rattle.std.specs.Prelude.{◌≡◌, ℕ, ◌+◌, ◌/◌, ◌≤◌, Bool, true, false}
+use Rattle.std.specs.Prelude.{◌≡◌, ℕ, ◌+◌, ◌≤◌, Bool, true, false}
 use Rattle.std.specs.List.{AllByRecursion}
-use Rattle.model_numbers.specs.Numbers.{card_bytes, image_base, zygote_base}
-use Rattle.card_table.specs.CardSet.{card_of, CardSet}
+use Rattle.model_numbers.specs.Numbers.{image_base, image_length, zygote_base, zygote_length}
+use Rattle.card_table.specs.CardSet.{card_of}
 use Rattle.heap_world.specs.declared.names.Card.{Card}
 use Rattle.heap_world.specs.declared.names.Card.TheVariants.{Image, Zygote}
 use Rattle.heap_world.specs.Cards.{outward_cards}
@@ -29,18 +29,16 @@ has_noted s c = is_noted (notes_of s c).records (notes_of s c).cards (card_numbe
 abbrev pub NotesNothing : Notes → Type 0
 NotesNothing notes = (card : ℕ) → is_noted notes.records notes.cards card ≡ false
 
--- the cards are those from an address on, and no card before it is dirty or recorded
-pub record NotesFrom (base : ℕ) (notes : Notes) : Type 0 where
+-- the cards are those of a window of so many bytes, and no card before it is dirty or recorded
+pub record NotesWindow (base bytes : ℕ) (notes : Notes) : Type 0 where
   pub start : notes.cards.start ≡ base
+  pub span : notes.cards.span ≡ bytes
   pub behind : (card : ℕ) → is_noted notes.records notes.cards card ≡ true → card_of base ≤ card
 
 -- each card that is dirty or recorded is noted, and each with an outward slot is dirty or recorded; before the seal none is
 pub record NotesCards (s : State) (p : Part) : Type 0 where
-  pub image : NotesFrom image_base s.image_notes
-  pub zygote : NotesFrom zygote_base s.zygote_notes
+  pub image : NotesWindow image_base image_length s.image_notes
+  pub zygote : NotesWindow zygote_base zygote_length s.zygote_notes
   pub noted : (c : Card) → has_noted s c ≡ true → world.is_noted p.stored p.held c ≡ true
   pub outward : AllByRecursion (λ c. has_noted s c ≡ true) (outward_cards p.graph)
   pub before_seal : p.graph.sealed ≡ false → NotesNothing s.image_notes × NotesNothing s.zygote_notes
-  -- the cards of a sealed process are kept up to the fills
-  pub image_span : p.graph.sealed ≡ true → s.image.fill ≤ s.image_notes.cards.span
-  pub zygote_span : p.graph.sealed ≡ true → s.zygote.fill ≤ s.zygote_notes.cards.span

@@ -2,3 +2,4 @@ pub mod State
 pub mod Cards
 pub mod Stands
 pub mod Acts
+pub mod Same

@@ -1,5 +1,5 @@
 -- A process stands in memory for a part of the world.
-use Rattle.std.specs.Prelude.{◌≡◌, ◌==◌, ◌×◌, ℕ, Bool, true, false, IsTrue, List, [], map, length}
+use Rattle.std.specs.Prelude.{◌≡◌, ◌==◌, ℕ, ◌≤◌, Bool, true, false, IsTrue, [], map, length}
 use Rattle.std.specs.List.{list_any}
 use Rattle.page_tables.specs.declared.address.Window.TheVariants as window
 use Rattle.page_tables.specs.Address.{is_in}
@@ -41,6 +41,8 @@ pub record HasImage (s : image.Space) (g : Graph) : Type 0 where
 pub record HasCounts (s : State) (g : Graph) : Type 0 where
   pub names : map (λ (r : RootAt). r.name) s.roots ≡ map (λ (r : Root). r.name) g.roots
   pub next : s.next ≡ g.next
+  -- the first number is 1
+  pub numbered : 1 ≤ s.next
   pub budget : s.budget ≡ g.budget
   pub is_sealed : s.sealed ≡ g.sealed
   pub dumps : s.dumps ≡ g.dumps
