@@ -3,4 +3,4 @@
 
 mod roots;
 
-pub use roots::{RootAt, Roots};
+pub use roots::RootAt;
