@@ -83,9 +83,9 @@ pub record JoinsTable (old new : Memory) (t u : ℕ) : Type 0 where
   pub rest : ChangesTable old new u
 
 -- a fork: the process promotes, then a child joins, and both stand in the memory with the child
-pub record Forks (c : Step) (child : State) (p : Part) : Type 0 where
+pub record Forks (c : Step) (made : State) (p : Part) : Type 0 where
   pub between : Memory
   pub acts : Acts (record c { now = between }) p (fork_part p)
-  pub joins : JoinsTable between c.now c.old.page_table child.page_table
+  pub joins : JoinsTable between c.now c.old.page_table made.page_table
   pub parent : StandsIn c.new c.now (fork_part p).part
-  pub child : StandsIn child c.now (record (fork_part p).part { graph = child_of (fork_part p).part.graph })
+  pub child : StandsIn made c.now (record (fork_part p).part { graph = child_of (fork_part p).part.graph })

@@ -6,7 +6,7 @@ ghost use Rattle.cow_pages.specs.Memory.{page_at, IsSound, Memory};
 ghost use Rattle.cow_pages.specs.Only.{OnlyTable};
 ghost use Rattle.heap_graph.specs.declared.names.Held.{Held};
 ghost use Rattle.heap_graph.specs.Graph.{drop_root, write_root};
-ghost use Rattle.heap_graph.specs.Fork.{child_of};
+ghost use Rattle.heap_world.specs.declared.reply.Reply.TheVariants.{Done};
 ghost use Rattle.heap_world.specs.Part.{Part};
 ghost use Rattle.heap_world.specs.Acts.{fork_part};
 ghost use Rattle.heap_world.specs.Sound as world;
@@ -32,7 +32,7 @@ pub fn uncounted_changes_leave_it_standing()
 
 /// A process that promoted all its objects has no page that it needs alone: it stands where a table was added that has its pages.
 pub fn forked_processes_stand()
-    ensures parent { (s : State) (p : Part) (old new : Memory) (u : ℕ) → (fork_part p).reply ≡ Reply.Done → p.graph.sealed ≡ true → StandsIn s old (fork_part p).part → u ≢ s.page_table → ChangesTable old new u
+    ensures parent { (s : State) (p : Part) (old new : Memory) (u : ℕ) → (fork_part p).reply ≡ Done → p.graph.sealed ≡ true → StandsIn s old (fork_part p).part → u ≢ s.page_table → ChangesTable old new u
         → ((q : ℕ) → page_at new u q ≡ page_at old s.page_table q) → IsSound new → StandsIn s new (fork_part p).part }
 {}
 
