@@ -3,3 +3,4 @@ pub mod Cards
 pub mod Stands
 pub mod Acts
 pub mod Same
+pub mod Slots
