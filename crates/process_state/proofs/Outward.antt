@@ -1,0 +1,1 @@
+-- Between the references that lead out in memory and the cards of a graph's outward slots.
