@@ -1,3 +1,4 @@
 pub mod Counted
 pub mod Spaces
 pub mod Outward
+pub mod Updating

@@ -1,5 +1,5 @@
 -- The objects of the image and those of the zygote window, as raw ones, and what their references lead to.
-use Rattle.std.proofs.Common.{◌≡◌, ◌∙◌, ◌⊎◌, ℕ, ◌+◌, ◌-◌, ◌/◌, ◌<◌, ◌≤◌, Bool, true, false, List, [], ◌∷◌, filter, nat_eq, refl, sym, ap, subst, inl, inr, arith, true≢false, pos}
+use Rattle.std.proofs.Common.{◌≡◌, ◌∙◌, ◌⊎◌, ℕ, ◌+◌, ◌-◌, ◌/◌, ◌%◌, ◌<◌, ◌≤◌, Bool, true, false, List, [], ◌∷◌, filter, nat_eq, refl, sym, ap, subst, inl, inr, arith, true≢false, pos}
 use Rattle.std.specs.Prelude.{is_some, ◌&&◌}
 use Rattle.std.specs.List.{list_any}
 use Rattle.std.proofs.lemmas.Bool.{eq-eqb, eqb-true}
@@ -134,7 +134,7 @@ module _ (s : State) (m : Memory) (p : Part) (k : StandsIn s m p) where
       by a o place.Large address h = refl
       by a o place.Promoted address h = refl
 
-  pub image-spot : (o : Object) → IsIn o p.graph.objects → is_in_image o.place ≡ true → OnSpot p.graph o o.place (addresses_in s p.graph o.number) image_base image_length card.Image
+  image-spot : (o : Object) → IsIn o p.graph.objects → is_in_image o.place ≡ true → OnSpot p.graph o o.place (addresses_in s p.graph o.number) image_base image_length card.Image
   image-spot o there = by o.place (table o.number) (stand-at o there)
     where
       by : (at : Place) (address : ℕ) → StandsAt o at address → is_in_image at ≡ true → OnSpot p.graph o at address image_base image_length card.Image
@@ -149,7 +149,7 @@ module _ (s : State) (m : Memory) (p : Part) (k : StandsIn s m p) where
       by place.Large address h e = absurd (true≢false (sym e))
       by place.Promoted address h e = absurd (true≢false (sym e))
 
-  pub zygote-spot : (o : Object) → IsIn o p.graph.objects → is_in_zygote o.place ≡ true → OnSpot p.graph o o.place (addresses_in s p.graph o.number) zygote_base zygote_length card.Zygote
+  zygote-spot : (o : Object) → IsIn o p.graph.objects → is_in_zygote o.place ≡ true → OnSpot p.graph o o.place (addresses_in s p.graph o.number) zygote_base zygote_length card.Zygote
   zygote-spot o there = by o.place (table o.number) (stand-at o there)
     where
       by : (at : Place) (address : ℕ) → StandsAt o at address → is_in_zygote at ≡ true → OnSpot p.graph o at address zygote_base zygote_length card.Zygote
@@ -163,6 +163,17 @@ module _ (s : State) (m : Memory) (p : Part) (k : StandsIn s m p) where
       by place.Young address h e = absurd (true≢false (sym e))
       by place.Large address h e = absurd (true≢false (sym e))
       by place.Promoted address h e = absurd (true≢false (sym e))
+
+  -- objects that pass a test stand in such a window
+  pub record IsWindow (test : Place → Bool) (make : ℕ → Card) (base bytes : ℕ) : Type 0 where
+    pub spots : (o : Object) → IsIn o p.graph.objects → test o.place ≡ true → OnSpot p.graph o o.place (addresses_in s p.graph o.number) base bytes make
+    pub aligned : base % card_bytes ≡ 0
+
+  pub image-window : IsWindow is_in_image card.Image image_base image_length
+  image-window = record { spots = image-spot; aligned = refl }
+
+  pub zygote-window : IsWindow is_in_zygote card.Zygote zygote_base zygote_length
+  zygote-window = record { spots = zygote-spot; aligned = refl }
 
   -- REFERENCES
 
