@@ -1,12 +1,13 @@
 -- The objects of the image and those of the zygote window, as raw ones, and what their references lead to.
-use Rattle.std.proofs.Common.{◌≡◌, ◌∙◌, ◌⊎◌, ℕ, ◌+◌, ◌-◌, ◌/◌, ◌%◌, ◌<◌, ◌≤◌, Bool, true, false, List, [], ◌∷◌, filter, nat_eq, refl, sym, ap, subst, inl, inr, arith, true≢false, pos}
+use Rattle.std.proofs.Common.{◌≡◌, ◌∙◌, ◌⊎◌, ℕ, ◌+◌, ◌-◌, ◌/◌, ◌%◌, ◌<◌, ◌≤◌, Bool, true, false, List, [], ◌∷◌, Some, filter, nat_eq, refl, sym, ap, subst, inl, inr, arith, true≢false, pos}
 use Rattle.std.specs.Prelude.{is_some, ◌&&◌}
 use Rattle.std.specs.List.{list_any}
 use Rattle.std.proofs.lemmas.Bool.{eq-eqb, eqb-true}
-use Rattle.model_numbers.specs.Numbers.{card_bytes, image_base, image_length, zygote_base, zygote_length}
+use Rattle.model_numbers.specs.Numbers.{card_bytes, image_base, image_length, page_bytes, zygote_base, zygote_length}
 use Rattle.class_layout.specs.declared.kind.FieldAt.{FieldAt}
 use Rattle.class_layout.specs.declared.kind.Kind.TheVariants.{Ref}
 use Rattle.class_layout.specs.Placing.{IsIn}
+use Rattle.page_tables.specs.Address.{page_of}
 use Rattle.cow_pages.specs.Memory.{Memory}
 use Rattle.cow_pages.specs.View.{view_of}
 use Rattle.heap_graph.specs.declared.names.Content.{Content}
@@ -21,7 +22,10 @@ use Rattle.heap_graph.proofs.Lists.{any-filter}
 use Rattle.heap_graph.proofs.Places.{value-fits}
 use Rattle.heap_world.specs.declared.names.Card.{Card}
 use Rattle.heap_world.specs.declared.names.Card.TheVariants as card
+use Rattle.heap_world.specs.declared.names.PageName.{PageName}
+use Rattle.heap_world.specs.declared.names.PageName.TheVariants as page
 use Rattle.heap_world.specs.Cards.{cards_in}
+use Rattle.heap_world.specs.Pages.{page_in}
 use Rattle.heap_world.specs.Part.{Part}
 use Rattle.world_laws.specs.Named.{has_slot}
 use Rattle.object_view.specs.Seen.{seen_value, value_in}
@@ -31,6 +35,7 @@ use Rattle.address_table.proofs.Fitting.{fits}
 use Rattle.large_objects.specs.declared.rows.LargeRow.{LargeRow}
 use Rattle.large_objects.specs.Rows.{row_at}
 use Rattle.graph_pages.specs.Holds.{is_at, object_on, raw_under}
+use Rattle.graph_pages.specs.Pages.{page_named}
 use Rattle.graph_pages.proofs.Graphs.{found, graph-fits, graph-raws}
 use Rattle.graph_pages.proofs.Lists.{any-same, filter-in, in-filter}
 use Rattle.mod_union.specs.ModUnion.{IsKnownTarget}
@@ -49,6 +54,7 @@ pub record OnSpot (g : Graph) (o : Object) (at : Place) (address base bytes : �
   pub high : address + size_of_object g.classes o ≤ base + bytes
   pub immune : is_immune true at ≡ true
   pub cards : (offset : ℕ) → cards_in at offset ≡ make ((address + offset - base) / card_bytes) ∷ []
+  pub pages : (table : ℕ → ℕ) (offset : ℕ) → (page : PageName) × (page_in o at offset ≡ Some page) × (page_named table page ≡ page_of (address + offset))
 
 same-eq : (a b : ℕ) → nat_eq a b ≡ nat_eq b a
 same-eq a b = same-bool (nat_eq a b) (nat_eq b a) (λ e. eq-eqb b a (sym (eqb-true a b e))) (λ e. eq-eqb a b (sym (eqb-true b a e)))
@@ -143,6 +149,7 @@ module _ (s : State) (m : Memory) (p : Part) (k : StandsIn s m p) where
         high = omega (arith, h.0, h.2);
         immune = refl;
         cards = λ offset. ap (λ a. card.Image ((a + offset - image_base) / card_bytes) ∷ []) (sym h.0);
+        pages = λ table offset. (page.Image ((spot + offset - image_base) / page_bytes), refl, omega (arith, h.0, h.1));
       }
       by (place.Zygote spot) address h e = absurd (true≢false (sym e))
       by place.Young address h e = absurd (true≢false (sym e))
@@ -159,6 +166,7 @@ module _ (s : State) (m : Memory) (p : Part) (k : StandsIn s m p) where
         high = omega (arith, h.0, h.2);
         immune = refl;
         cards = λ offset. ap (λ a. card.Zygote ((a + offset - zygote_base) / card_bytes) ∷ []) (sym h.0);
+        pages = λ table offset. (page.Zygote ((spot + offset - zygote_base) / page_bytes), refl, omega (arith, h.0, h.1));
       }
       by place.Young address h e = absurd (true≢false (sym e))
       by place.Large address h e = absurd (true≢false (sym e))

@@ -1,0 +1,90 @@
+-- A process whose dirty and recorded cards of a window are those of the slots that lead out of it.
+use Rattle.std.proofs.Common.{◌≡◌, ◌∙◌, ℕ, ◌+◌, ◌≤◌, Bool, true, List, [], ◌∷◌, nat_eq, sym, ap, subst, arith, true≢false}
+use Rattle.std.specs.List.{AllByRecursion}
+use Rattle.std.proofs.lemmas.Bool.{eq-eqb, eqb-true}
+use Rattle.model_numbers.specs.Numbers.{image_base, image_length, zygote_base, zygote_length}
+use Rattle.card_table.specs.CardSet.{card_of}
+use Rattle.class_layout.specs.Placing.{IsIn}
+use Rattle.cow_pages.specs.Memory.{Memory}
+use Rattle.heap_graph.specs.declared.names.Place.{Place}
+use Rattle.heap_graph.specs.declared.names.Place.TheVariants as place
+use Rattle.heap_graph.specs.Formed.{is_in_image}
+use Rattle.heap_graph.specs.Graph.{Graph, Object}
+use Rattle.heap_world.specs.declared.names.Card.{Card}
+use Rattle.heap_world.specs.declared.names.Card.TheVariants as card
+use Rattle.heap_world.specs.Cards.{cards_in, outward_cards}
+use Rattle.heap_world.specs.Cards as world
+use Rattle.heap_world.specs.Part.{Part}
+use Rattle.world_laws.proofs.OutwardPages.{cards_all, cards_one}
+use Rattle.object_view.specs.declared.names.Slot.{Slot}
+use Rattle.graph_pages.proofs.Lists.{any-from, any-to}
+use Rattle.mod_union.specs.ModUnion.{has_slot_on, is_noted, AreOutward, IsOutwardSlot}
+use Rattle.process_state.specs.Cards.{has_noted, NotesCards, NotesWindow}
+use Rattle.process_state.specs.Slots.{is_in_zygote, raws_in}
+use Rattle.process_state.specs.Stands.{StandsIn}
+use Rattle.process_state.specs.State.{Notes, State}
+use Rattle.process_state.proofs.Outward.{card-slots, slot-card}
+use Rattle.process_state.proofs.Spaces.{image-window, zygote-window, IsWindow}
+
+-- with other notes of its cards a process stands where those are right
+with-notes : (s : State) (m : Memory) (p : Part) (image zygote : Notes) → StandsIn s m p → NotesCards (record s { image_notes = image; zygote_notes = zygote }) p
+    → StandsIn (record s { image_notes = image; zygote_notes = zygote }) m p
+with-notes s m p image zygote k cards = record {
+  lives = k.lives;
+  part = k.part;
+  outward = k.outward;
+  within = k.within;
+  counts = record {
+    names = k.counts.names;
+    next = k.counts.next;
+    numbered = k.counts.numbered;
+    budget = k.counts.budget;
+    is_sealed = k.counts.is_sealed;
+    dumps = k.counts.dumps;
+    objects = k.counts.objects;
+    promoted = k.counts.promoted;
+  };
+  heap = k.heap;
+  flags = record { touched = k.flags.touched; waiting = k.flags.waiting };
+  cards = cards;
+  alone = k.alone;
+  image_is = k.image_is;
+  zygote_is = k.zygote_is;
+  image = k.image;
+  zygote = k.zygote;
+}
+
+module _ (s : State) (m : Memory) (p : Part) (k : StandsIn s m p) (sealed : p.graph.sealed ≡ true) (notes : Notes) (found : List Slot)
+    (same : (card : ℕ) → is_noted notes.records notes.cards card ≡ has_slot_on found card) where
+  abbrev g : Graph
+  g = p.graph
+
+  abbrev IsWorld : Card → Type 0
+  IsWorld c = world.is_noted p.stored p.held c ≡ true
+
+  module _ (test : Place → Bool) (make : ℕ → Card) (base bytes : ℕ) (w : IsWindow s m p k test make base bytes) (are : AreOutward s.classes (raws_in test s p.graph) s.rows found) where
+    -- a noted card is one of the part's
+    noted-card : (card : ℕ) → is_noted notes.records notes.cards card ≡ true → (n : ℕ) × (card_of base + n ≡ card) × IsWorld (make n)
+    noted-card card noted =
+        let it = any-from (λ (slot : Slot). nat_eq card (card_of slot.at.0)) found (sym (same card) ∙ noted) in
+        let on = slot-card s m p k sealed test make base bytes w IsWorld it.0 ((are.exact it.0).0 it.1) k.part.outward_noted in
+        (on.0, on.1 ∙ sym (eqb-true card (card_of it.0.at.0) it.2), on.2)
+
+    noted-window : (old : Notes) → NotesWindow base bytes old → notes.cards.start ≡ old.cards.start → notes.cards.span ≡ old.cards.span → NotesWindow base bytes notes
+    noted-window old was start span =
+        record { start = start ∙ was.start; span = span ∙ was.span; behind = λ card noted. let it = noted-card card noted in omega (arith, it.1) }
+
+    noted-one : (n : ℕ) → is_noted notes.records notes.cards (card_of base + n) ≡ true → IsWorld (make n)
+    noted-one n noted =
+        let it = noted-card (card_of base + n) noted in
+        let e : it.0 ≡ n = omega (arith, it.1) in
+        subst (λ j. IsWorld (make j)) e it.2
+
+    -- the card of a slot is noted
+    slot-noted : (slot : Slot) (n : ℕ) → IsOutwardSlot s.classes (raws_in test s p.graph) s.rows slot → card_of base + n ≡ card_of slot.at.0 → is_noted notes.records notes.cards (card_of base + n) ≡ true
+    slot-noted slot n is e = same (card_of base + n) ∙ any-to (λ (x : Slot). nat_eq (card_of base + n) (card_of x.at.0)) found slot ((are.exact slot).1 is) (eq-eqb _ _ e)
+
+  -- the cards of all outward slots, window by window
+  all-cards : (P : Card → Type 0) → ((o : Object) (offset : ℕ) → IsIn o p.graph.objects → AllByRecursion (λ c. has_noted s c ≡ true) (cards_in o.place offset) → AllByRecursion P (cards_in o.place offset))
+      → AllByRecursion P (outward_cards p.graph)
+  all-cards P each = ?
