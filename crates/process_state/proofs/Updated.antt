@@ -1,5 +1,5 @@
 -- A process whose dirty and recorded cards of a window are those of the slots that lead out of it.
-use Rattle.std.proofs.Common.{◌≡◌, ◌∙◌, ℕ, ◌+◌, ◌≤◌, Bool, true, List, [], ◌∷◌, nat_eq, sym, ap, subst, arith, true≢false}
+use Rattle.std.proofs.Common.{◌≡◌, ◌∙◌, ℕ, ◌+◌, ◌≤◌, Bool, true, List, [], ◌∷◌, nat_eq, refl, sym, ap, subst, arith, true≢false}
 use Rattle.std.specs.List.{AllByRecursion}
 use Rattle.std.proofs.lemmas.Bool.{eq-eqb, eqb-true}
 use Rattle.model_numbers.specs.Numbers.{image_base, image_length, zygote_base, zygote_length}
@@ -84,7 +84,61 @@ module _ (s : State) (m : Memory) (p : Part) (k : StandsIn s m p) (sealed : p.gr
     slot-noted : (slot : Slot) (n : ℕ) → IsOutwardSlot s.classes (raws_in test s p.graph) s.rows slot → card_of base + n ≡ card_of slot.at.0 → is_noted notes.records notes.cards (card_of base + n) ≡ true
     slot-noted slot n is e = same (card_of base + n) ∙ any-to (λ (x : Slot). nat_eq (card_of base + n) (card_of x.at.0)) found slot ((are.exact slot).1 is) (eq-eqb _ _ e)
 
-  -- the cards of all outward slots, window by window
-  all-cards : (P : Card → Type 0) → ((o : Object) (offset : ℕ) → IsIn o p.graph.objects → AllByRecursion (λ c. has_noted s c ≡ true) (cards_in o.place offset) → AllByRecursion P (cards_in o.place offset))
-      → AllByRecursion P (outward_cards p.graph)
-  all-cards P each = ?
+  abbrev HasNoted : State → Card → Type 0
+  HasNoted t c = has_noted t c ≡ true
+
+  abbrev image_next : State
+  image_next = record s { image_notes = notes }
+
+  abbrev zygote_next : State
+  zygote_next = record s { zygote_notes = notes }
+
+  pub image-updated : AreOutward s.classes (raws_in is_in_image s p.graph) s.rows found → notes.cards.start ≡ s.image_notes.cards.start → notes.cards.span ≡ s.image_notes.cards.span
+      → StandsIn (record s { image_notes = notes }) m p
+  image-updated are start span = with-notes s m p notes s.zygote_notes k (record {
+    image = noted-window is_in_image card.Image image_base image_length (image-window s m p k) are s.image_notes k.cards.image start span;
+    zygote = k.cards.zygote;
+    noted = noted;
+    outward = cards_all (HasNoted image_next) g g.objects (λ o st there stored immune out.
+        by o.place st.at.offset (cards_one (HasNoted s) g g.objects o st k.cards.outward there stored immune out)
+        (λ here. card-slots s m p k sealed is_in_image card.Image image_base image_length (image-window s m p k) (HasNoted image_next)
+        (slot-noted is_in_image card.Image image_base image_length (image-window s m p k) are) o st there here stored out));
+    before_seal = λ e. absurd (true≢false (sym sealed ∙ e));
+  })
+    where
+      noted : (c : Card) → has_noted image_next c ≡ true → IsWorld c
+      noted (card.Image n) is = noted-one is_in_image card.Image image_base image_length (image-window s m p k) are n is
+      noted (card.Zygote n) is = k.cards.noted (card.Zygote n) is
+
+      by : (at : Place) (offset : ℕ) → AllByRecursion (HasNoted s) (cards_in at offset) → (is_in_image at ≡ true → AllByRecursion (HasNoted image_next) (cards_in at offset))
+          → AllByRecursion (HasNoted image_next) (cards_in at offset)
+      by (place.Image spot) offset old new = new refl
+      by (place.Zygote spot) offset old new = old
+      by place.Young offset old new = tt
+      by place.Large offset old new = tt
+      by place.Promoted offset old new = tt
+
+  pub zygote-updated : AreOutward s.classes (raws_in is_in_zygote s p.graph) s.rows found → notes.cards.start ≡ s.zygote_notes.cards.start → notes.cards.span ≡ s.zygote_notes.cards.span
+      → StandsIn (record s { zygote_notes = notes }) m p
+  zygote-updated are start span = with-notes s m p s.image_notes notes k (record {
+    image = k.cards.image;
+    zygote = noted-window is_in_zygote card.Zygote zygote_base zygote_length (zygote-window s m p k) are s.zygote_notes k.cards.zygote start span;
+    noted = noted;
+    outward = cards_all (HasNoted zygote_next) g g.objects (λ o st there stored immune out.
+        by o.place st.at.offset (cards_one (HasNoted s) g g.objects o st k.cards.outward there stored immune out)
+        (λ here. card-slots s m p k sealed is_in_zygote card.Zygote zygote_base zygote_length (zygote-window s m p k) (HasNoted zygote_next)
+        (slot-noted is_in_zygote card.Zygote zygote_base zygote_length (zygote-window s m p k) are) o st there here stored out));
+    before_seal = λ e. absurd (true≢false (sym sealed ∙ e));
+  })
+    where
+      noted : (c : Card) → has_noted zygote_next c ≡ true → IsWorld c
+      noted (card.Image n) is = k.cards.noted (card.Image n) is
+      noted (card.Zygote n) is = noted-one is_in_zygote card.Zygote zygote_base zygote_length (zygote-window s m p k) are n is
+
+      by : (at : Place) (offset : ℕ) → AllByRecursion (HasNoted s) (cards_in at offset) → (is_in_zygote at ≡ true → AllByRecursion (HasNoted zygote_next) (cards_in at offset))
+          → AllByRecursion (HasNoted zygote_next) (cards_in at offset)
+      by (place.Image spot) offset old new = old
+      by (place.Zygote spot) offset old new = new refl
+      by place.Young offset old new = tt
+      by place.Large offset old new = tt
+      by place.Promoted offset old new = tt
