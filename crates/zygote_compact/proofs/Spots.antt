@@ -182,8 +182,8 @@ collected-fill g formed = elim (cases_Bool g.sealed) [
       let all : (o : Object) → IsIn o g.objects → is_in_image o.place ≡ true = λ o there. all-in (λ o. is_in_image o.place ≡ true) g.objects o there (formed.before_seal e) in
       let kept : List ℕ = numbers (filter (keeps g) g.objects) in
       none-end g.classes (map (cleared kept) (filter (keeps g) g.objects)) (λ q there.
-          let it = in-map (cleared kept) (filter (keeps g) g.objects) q there in
-          ap (λ (o : Object). is_in_image o.place) (sym it.2) ∙ all it.0 (in-filter (keeps g) g.objects it.0 it.1).0)
+      let it = in-map (cleared kept) (filter (keeps g) g.objects) q there in
+      ap (λ (o : Object). is_in_image o.place) (sym it.2) ∙ all it.0 (in-filter (keeps g) g.objects it.0 it.1).0)
       ∙ sym (none-end g.classes g.objects all)
 ]
 
