@@ -73,7 +73,7 @@ module _ (h : HeapState) (old new : Memory) (t : ℕ) (g : Graph) (regions : Spa
       let it = any-from (has_bytes_in g.classes table p) g.objects e in
       let o : Object = it.0 in
       let spot = spot-immune w o.place which (one-window p (window_of o.place) w (page-in (homes_of h) g k.heap.formed k.heap.house (lists_of h.regions) k.heap.space k.heap.stands.packed p o it.1 it.2) is) in
-      let keep : keeps g o ≡ true = or_left (is_immune g.sealed o.place) (is_among (reached g) o.number) (ap (λ b. is_immune b o.place) k.heap.is_sealed ∙ spot.0) in
+      let keep : keeps g o ≡ true = or_left (is_immune g.sealed o.place) (is_among (reached g) o.number) (ap (λ b. is_immune b o.place) k.is_sealed ∙ spot.0) in
       any-to (has_bytes_in g.classes next p) left.objects (cleared kept o) (kept-in h old new t g regions rows roots k c o it.1 keep)
       (ap (λ a. nat_le (page_of a) p && nat_le p (page_of (a + size_in g.classes o.shape - 1))) (next-is h old new t g regions rows roots k c o it.1 keep spot.1) ∙ it.2))
       (λ e.

@@ -109,7 +109,7 @@ module _ (h : HeapState) (old new : Memory) (t : ℕ) (g : Graph) (regions : Spa
       ∙ mortal-is next_homes left (formed h old new t g regions rows roots k c) house q there
 
   seal : (o : Object) → is_immune g.sealed o.place ≡ is_immune true o.place
-  seal o = ap (λ b. is_immune b o.place) k.heap.is_sealed
+  seal o = ap (λ b. is_immune b o.place) k.is_sealed
 
   -- what a reference to an object that isn't immune leads to
   object-held : (q : Object) (p : FieldAt) (b : ℕ) → IsIn q left.objects → IsIn p (places_of g.classes q.shape) → p.kind ≡ Ref → value_in next q p ≡ pos b → is_mortal rows b ≡ true
@@ -187,7 +187,6 @@ module _ (h : HeapState) (old new : Memory) (t : ℕ) (g : Graph) (regions : Spa
   pub heap-left : HoldsHeap (state_of h.classes regions rows roots slots) new t (collect g)
   heap-left = record {
     formed = formed h old new t g regions rows roots k c;
-    is_sealed = k.heap.is_sealed;
     house = house;
     pages = pages-left h old new t g regions rows roots k c leaves;
     stands = state-left h old new t g regions rows roots k c slots;
@@ -208,4 +207,4 @@ module _ (h : HeapState) (old new : Memory) (t : ℕ) (g : Graph) (regions : Spa
         leaves.alone p (or_right (is_in window.Regions p || list_any (large.holds_page p) (filter waits h.rows)) _ any) it.mapped
 
     pub graph-kept : KeepsGraph (state_of h.classes regions rows roots slots) new t (collect g)
-    graph-kept = record { heap = heap-left; out = out; alone = slots-alone }
+    graph-kept = record { heap = heap-left; is_sealed = k.is_sealed; out = out; alone = slots-alone }

@@ -89,7 +89,7 @@ module _ (h : HeapState) (old new : Memory) (t : ℕ) (g : Graph) (regions : Spa
   kept = numbers (filter (keeps g) g.objects)
 
   pub formed : IsFormed (collect g)
-  formed = collect_formed g k.heap.is_sealed k.heap.formed
+  formed = collect_formed g k.is_sealed k.heap.formed
 
   -- YOUNG
 
@@ -124,7 +124,7 @@ module _ (h : HeapState) (old new : Memory) (t : ℕ) (g : Graph) (regions : Spa
       let row : LargeRow = row_by g.classes table o (is_immune true o.place) in
       let there_row : Contains h.rows row = in-contains h.rows row (subst (IsIn row) (sym old-rows) (by-there g.classes table g.objects o there is)) in
       let back : slot_base (slot_in (table o.number)) ≡ table o.number = slot-back o.place (table o.number) is ((fits (homes_of h) g k.heap.formed k.heap.house).placed o there) in
-      let seal : is_immune g.sealed o.place ≡ is_immune true o.place = ap (λ b. is_immune b o.place) k.heap.is_sealed in
+      let seal : is_immune g.sealed o.place ≡ is_immune true o.place = ap (λ b. is_immune b o.place) k.is_sealed in
       same-bool _ _
       (λ e. elim ((c.rows_left.test row there_row).0 e) [
         | inl promoted ↦ or_left _ _ (seal ∙ promoted)

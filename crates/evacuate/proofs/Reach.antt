@@ -85,7 +85,7 @@ module _ (h : HeapState) (m : Memory) (t : ℕ) (g : Graph) (keeps : KeepsGraph 
   pub mortal : (o : Object) → IsIn o g.objects → is_mortal h.rows (table_of (homes_of h) g o.number) ≡ not (is_immune g.sealed o.place)
   mortal o there =
       ap (λ rows. is_mortal rows (table o.number)) keeps.heap.stands.rows ∙ mortal-is (homes_of h) g keeps.heap.formed keeps.heap.house o there
-      ∙ ap (λ b. not (is_immune b o.place)) (sym keeps.heap.is_sealed)
+      ∙ ap (λ b. not (is_immune b o.place)) (sym keeps.is_sealed)
 
   pub is-node : (o : Object) → IsIn o g.objects → is_immune g.sealed o.place ≡ false → is_node h.rows (raws_of (homes_of h) g) (table_of (homes_of h) g o.number) ≡ true
   is-node o there free = and_from _ _ (raw-there (homes_of h) g keeps.heap.formed keeps.heap.house o there).0 (mortal o there ∙ ap not free)

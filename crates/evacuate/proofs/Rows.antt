@@ -1,22 +1,27 @@
 -- The rows of a graph's large objects.
 use Rattle.std.proofs.Common.{◌≡◌, ◌∙◌, ℕ, ◌+◌, ◌<◌, ◌≤◌, true, false, List, [], ◌∷◌, length, map, refl, sym, ap, subst, inl, inr, arith, true≢false}
 use Rattle.std.specs.Prelude.{nat_eq, slice_index}
-use Rattle.std.specs.List.{AllByRecursion, IsDistinct}
+use Rattle.std.specs.List.{AllByRecursion, Contains, IsDistinct}
 use Rattle.std.proofs.lemmas.Bool.{ne_eqb}
 use Rattle.std.proofs.lemmas.Map.Keys.{IsDistinct-cons}
 use Rattle.class_layout.specs.ClassList.{Class}
 use Rattle.class_layout.specs.Placing.{IsIn}
 use Rattle.heap_graph.specs.declared.names.Place.{Place}
 use Rattle.heap_graph.specs.declared.names.Place.TheVariants as place
-use Rattle.heap_graph.specs.Formed.{AreRising}
-use Rattle.heap_graph.specs.Graph.{is_immune, Object}
-use Rattle.address_table.specs.Computed.{address_in, end_behind, large_behind, large_count, slot_at, table_from, AreNumbers, Homes}
+use Rattle.heap_graph.specs.Formed.{AreRising, IsFormed}
+use Rattle.heap_graph.specs.Graph.{is_immune, Graph, Object}
+use Rattle.address_table.specs.Computed.{address_in, end_behind, large_behind, large_count, slot_at, table_from, table_of, AreNumbers, Homes}
 use Rattle.address_table.proofs.Behind.{count-rises, rising-in, table-first, table-later}
 use Rattle.large_objects.specs.declared.rows.LargeRow.{LargeRow}
 use Rattle.large_objects.specs.Rows as large
+use Rattle.large_objects.specs.Rows.{slot_base}
 use Rattle.large_objects.proofs.RowLemmas.{rising-lower}
+use Rattle.graph_pages.proofs.Lists.{in-filter}
 use Rattle.world_laws.specs.Named.{has_slot}
-use Rattle.evacuate.specs.Stands.{row_of, rows_from, with_row}
+use Rattle.raw_objects.specs.Raws.{Raws}
+use Rattle.object_collection.specs.Collects.{AreRowsLeft, HeapState}
+use Rattle.evacuate.specs.Stands.{homes_of, row_of, rows_from, with_row, StandsFor}
+use Rattle.evacuate.proofs.Members.{contains-in, in-contains}
 
 abbrev pub slots_of : List LargeRow → List ℕ
 slots_of rows = map (λ (row : LargeRow). row.slot) rows
@@ -179,3 +184,13 @@ module _ (cs : List Class) (homes : Homes) where
         by place.Young rest most = rest k most
         by place.Large rest most = IsDistinct-cons nat_eq (slice_index homes.slots k) (slots_of (rows (k + 1) os)) (others k (k + 1) os (omega arith) most) (rest (k + 1) most)
         by place.Promoted rest most = IsDistinct-cons nat_eq (slice_index homes.slots k) (slots_of (rows (k + 1) os)) (others k (k + 1) os (omega arith) most) (rest (k + 1) most)
+
+-- a process keeps a row at its object's address
+pub row-address : (h : HeapState) (g : Graph) (row : LargeRow) → IsFormed g → StandsFor h g → Contains h.rows row → table_of (homes_of h) g row.number ≡ slot_base row.slot
+row-address h g row formed stands there =
+    let it = object-there g.classes (homes_of h) 0 g.next 0 0 g.objects formed.numbers row (subst (IsIn row) stands.rows (contains-in h.rows row there)) in
+    sym (ap (λ (r : LargeRow). table_of (homes_of h) g r.number) it.row_is) ∙ it.at_is ∙ ap (λ (r : LargeRow). slot_base r.slot) it.row_is
+
+-- each row that a collection leaves was there before
+pub row-before : (h : HeapState) (raws : Raws) (rows : List LargeRow) (row : LargeRow) → AreRowsLeft h raws rows → Contains rows row → Contains h.rows row
+row-before h raws rows row left there = in-contains h.rows row (in-filter left.stays h.rows row (subst (IsIn row) left.rows_are (contains-in rows row there))).0

@@ -147,7 +147,6 @@ module _ (h : HeapState) (m : Memory) (t : ℕ) (g : Graph) (s : HasSealed h m t
   sealed-kept = record {
     heap = record {
       formed = s.formed;
-      is_sealed = s.is_sealed;
       house = subst (λ homes. HouseAll homes g) (sym nothing-stands) house;
       pages = subst (λ homes. PagesHold m t homes g) (sym nothing-stands) s.pages;
       stands = stands;
@@ -157,6 +156,7 @@ module _ (h : HeapState) (m : Memory) (t : ℕ) (g : Graph) (s : HasSealed h m t
       regions = λ p held. absurd (true≢false (sym held ∙ ap (list_any (space.holds_page p)) none-filled));
       large = λ p held. absurd (true≢false (sym held ∙ ap (λ (rows : List LargeRow). list_any (large.holds_page p) (filter waits rows)) s.none_large));
     };
+    is_sealed = s.is_sealed;
     out = subst (λ homes. HasSlotsOut h (raws_of homes g)) (sym nothing-stands) out;
     alone = λ slot there. absurd (subst (λ (ss : List Slot). IsIn slot ss) s.none_out there);
   }

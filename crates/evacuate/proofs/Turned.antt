@@ -95,7 +95,7 @@ module _ (h : HeapState) (old new : Memory) (t : ℕ) (g : Graph) (regions : Spa
   house = housed h old new t g regions rows roots k c
 
   seal : (o : Object) → is_immune g.sealed o.place ≡ is_immune true o.place
-  seal o = ap (λ b. is_immune b o.place) k.heap.is_sealed
+  seal o = ap (λ b. is_immune b o.place) k.is_sealed
 
   -- a kept object is in the collected graph, and each object there is one
   pub kept-in : (o : Object) → IsIn o g.objects → keeps g o ≡ true → IsIn (cleared (numbers (filter (keeps g) g.objects)) o) (collect g).objects

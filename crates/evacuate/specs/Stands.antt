@@ -64,7 +64,7 @@ homes_in in_use rows = record { regions = map (λ (row : Row). row.region) in_us
 abbrev pub homes_of : HeapState → Homes
 homes_of h = homes_in h.regions.in_use h.rows
 
--- the state that a process keeps for a sealed graph, besides the slots of immune objects: the regions hold the young objects,
+-- the state that a process keeps for a graph, besides the slots of immune objects: the regions hold the young objects,
 -- packed, at most half of them in use; a row stands for each large object, none is marked; and the roots hold addresses
 pub record StandsFor (h : HeapState) (g : Graph) : Type 0 where
   pub classes : h.classes ≡ g.classes
@@ -76,11 +76,10 @@ pub record StandsFor (h : HeapState) (g : Graph) : Type 0 where
   pub rows : h.rows ≡ rows_from g.classes (homes_of h).slots 0 g.objects
   pub roots : addresses h.roots ≡ map (λ r. root_address (table_of (homes_of h) g) r.holds) g.roots
 
--- a process holds a sealed graph in its pages, and keeps its state, whichever slots of immune objects it has; the pages of the
+-- a process holds a graph in its pages, and keeps its state, whichever slots of immune objects it has; the pages of the
 -- regions, and of large objects that aren't promoted, have their frames alone
 pub record HoldsHeap (h : HeapState) (m : Memory) (t : ℕ) (g : Graph) : Type 0 where
   pub formed : IsFormed g
-  pub is_sealed : g.sealed ≡ true
   pub house : HouseAll (homes_of h) g
   pub pages : PagesHold m t (homes_of h) g
   pub stands : StandsFor h g
@@ -95,9 +94,11 @@ pub record HasSlotsOut (h : HeapState) (raws : Raws) : Type 0 where
   pub exact : (slot : Slot) → IsIn slot h.slots ↔ LeadsOut h raws slot
   pub once : IsDistinct nat_eq (map (λ (slot : Slot). slot.at.0) h.slots)
 
--- besides its heap a process has these slots, and their pages have their frames alone: a collection can be made
+-- the graph is sealed, and besides its heap the process has these slots, whose pages have their frames alone: a collection can
+-- be made
 pub record KeepsGraph (h : HeapState) (m : Memory) (t : ℕ) (g : Graph) : Type 0 where
   pub heap : HoldsHeap h m t g
+  pub is_sealed : g.sealed ≡ true
   pub out : HasSlotsOut h (raws_of (homes_of h) g)
   pub alone : (slot : Slot) → IsIn slot h.slots → HasOneSharer m t (page_of slot.at.0)
 

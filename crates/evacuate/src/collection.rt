@@ -1,9 +1,11 @@
 //! A collection of the graph that a process holds in its pages.
 ghost use Rattle.std.specs.Prelude.{◌≡◌, ℕ, ◌+◌, ◌*◌, IfOk, OnOk, OnErr, List, filter, length};
+ghost use Rattle.std.specs.List.{Contains};
 ghost use Rattle.cow_pages.specs.Memory.{IsSound};
 ghost use Rattle.cow_pages.specs.Only.{OnlyTable};
 ghost use Rattle.heap_graph.specs.Collection.{collect, freed_count, loose_count};
 ghost use Rattle.heap_graph.specs.Graph.{Graph};
+ghost use Rattle.large_objects.specs.declared.rows.LargeRow.{LargeRow};
 ghost use Rattle.object_view.specs.declared.names.Slot.{Slot};
 ghost use Rattle.object_view.specs.Seen.{RoseBy};
 ghost use Rattle.object_collection.specs.Collects.{state_of, LeadsOut, LeavesPages};
@@ -22,9 +24,9 @@ use std::alloc::{AllocError, Global};
 /// promoted have their frames alone.
 ///
 /// Afterwards the pages hold the collected graph, the regions its young objects, packed by rising number, and the roots the
-/// addresses of their objects. A slot that leads out then was one of the given ones. It tells how many objects that aren't
-/// immune it kept, and how many it freed. All memory is taken before the first write, so after `AllocError` nothing has
-/// changed. It makes at most four reads for each slot that are counted.
+/// addresses of their objects. A slot that leads out then was one of the given ones, and a row that is there then was there
+/// before, in its slot. It tells how many objects that aren't immune it kept, and how many it freed. All memory is taken before
+/// the first write, so after `AllocError` nothing has changed. It makes at most four reads for each slot that are counted.
 pub fn collect(
     alloc: Global,
     frames: &mut Frames,
@@ -43,6 +45,7 @@ pub fn collect(
     ensures kept { OnOk result ((g : Graph) (further : List Slot) → KeepsGraph (state_of classes.now regions.old larges.old roots.old slots.now) frames.old t.0 g
         → HasSlotsOut (state_of classes.now regions.new larges.new roots.new further) (raws_of (homes_in regions.new.in_use larges.new) (collect g))
         → KeepsGraph (state_of classes.now regions.new larges.new roots.new further) frames.new t.0 (collect g)) }
+    ensures rows { OnOk result ((row : LargeRow) → Contains larges.new row → Contains larges.old row) }
     ensures counts { IfOk result (λ it. (g : Graph) → KeepsGraph (state_of classes.now regions.old larges.old roots.old slots.now) frames.old t.0 g
         → (it.kept ≡ loose_count (collect g)) × (it.freed ≡ freed_count g (collect g))) }
     ensures pages { OnOk result (LeavesPages (state_of classes.now regions.old larges.old roots.old slots.now) frames.old frames.new t.0) }

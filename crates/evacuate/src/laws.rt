@@ -1,15 +1,17 @@
 //! Laws about a graph that a process holds in its pages: what is reached, that it can be collected, and what a collection of
 //! its memory leaves.
 ghost use Rattle.std.specs.Prelude.{◌≡◌, ◌↔◌, ℕ, ◌+◌, true, false, filter, length, List};
+ghost use Rattle.std.specs.List.{Contains};
 ghost use Rattle.class_layout.specs.Placing.{IsIn};
 ghost use Rattle.cow_pages.specs.Memory.{Memory};
 ghost use Rattle.page_tables.specs.declared.address.Addr.{Addr};
 ghost use Rattle.heap_graph.specs.Collection.{collect, freed_count, loose_count};
+ghost use Rattle.heap_graph.specs.Formed.{IsFormed};
 ghost use Rattle.heap_graph.specs.Graph.{is_immune, Graph, Object};
 ghost use Rattle.heap_graph.specs.Reach.{is_among, reached};
 ghost use Rattle.region_space.specs.Space.{lists_of, Space};
 ghost use Rattle.large_objects.specs.declared.rows.LargeRow.{LargeRow};
-ghost use Rattle.large_objects.specs.Rows.{waits};
+ghost use Rattle.large_objects.specs.Rows.{slot_base, waits};
 ghost use Rattle.object_view.specs.declared.names.Slot.{Slot};
 ghost use Rattle.object_moves.specs.Copies.{HoldsRegions};
 ghost use Rattle.address_table.specs.Computed.{table_of};
@@ -27,6 +29,11 @@ pub fn held_heaps_have_room()
     ensures regions { (h : HeapState) (m : Memory) (t : ℕ) (g : Graph) → HoldsHeap h m t g → HoldsRegions h.classes m t (lists_of h.regions) (raws_of (homes_of h) g) }
     ensures young { (h : HeapState) (m : Memory) (t : ℕ) (g : Graph) → HoldsHeap h m t g → AreYoung h (raws_of (homes_of h) g) (young_homes (homes_of h) g) }
     ensures large { (h : HeapState) (m : Memory) (t : ℕ) (g : Graph) → HoldsHeap h m t g → AreLarge h m t (raws_of (homes_of h) g) }
+{}
+
+/// Where a process keeps a row for a large object, the object's address is that of the row's slot.
+pub fn rows_have_addresses()
+    ensures { (h : HeapState) (g : Graph) (row : LargeRow) → IsFormed g → StandsFor h g → Contains h.rows row → table_of (homes_of h) g row.number ≡ slot_base row.slot }
 {}
 
 /// An object that isn't immune is reached in the graph exactly where it is reached in memory.

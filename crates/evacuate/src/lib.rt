@@ -8,5 +8,5 @@ pub use collection::collect;
 pub use laws::{
     collected_graphs_are_held, collected_graphs_are_kept, graphs_can_be_collected,
     held_heaps_have_room, mortal_objects_are_counted, reached_objects_are_reached,
-    sealed_graphs_are_kept,
+    rows_have_addresses, sealed_graphs_are_kept,
 };

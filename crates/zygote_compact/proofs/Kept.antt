@@ -196,7 +196,6 @@ module _ (h : HeapState) (old new : Memory) (t : ℕ) (g : Graph) (z : zygote.Sp
     pub heap-left : (slots : List Slot) → HoldsHeap (state_of h.classes regions rows roots slots) new t (promoted g)
     heap-left slots = record {
       formed = is_formed;
-      is_sealed = k.is_sealed;
       house = housed;
       pages = record { objects = graph-left h old new t g z regions rows roots after k s room c; pages = window-left };
       stands = state-left h old new t g z regions rows roots after k s room c slots;
@@ -207,5 +206,5 @@ module _ (h : HeapState) (old new : Memory) (t : ℕ) (g : Graph) (z : zygote.Sp
       live = c.held.live;
     }
 
-    pub graph-kept : KeepsGraph (state_of h.classes regions rows roots []) new t (promoted g)
-    graph-kept = record { heap = heap-left []; out = none-out; alone = λ slot there. absurd there }
+    pub graph-kept : g.sealed ≡ true → KeepsGraph (state_of h.classes regions rows roots []) new t (promoted g)
+    graph-kept sealed = record { heap = heap-left []; is_sealed = sealed; out = none-out; alone = λ slot there. absurd there }

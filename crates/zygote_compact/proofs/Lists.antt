@@ -1,14 +1,14 @@
 -- Promoted objects, one by one: their spots, their rows, and where the others stand.
 use Rattle.std.proofs.Common.{◌≡◌, ◌∙◌, ℕ, ◌+◌, ◌<◌, Bool, true, false, cond, List, [], ◌∷◌, map, filter, refl, sym, ap, subst, inl, inr, arith, true≢false}
 use Rattle.std.specs.Prelude.{max, sum, ◌||◌, ◌==◌}
-use Rattle.std.specs.List.{list_any}
+use Rattle.std.specs.List.{list_any, AllByRecursion}
 use Rattle.model_numbers.specs.Numbers.{zygote_base}
 use Rattle.class_layout.specs.ClassList.{Class}
 use Rattle.class_layout.specs.Placing.{IsIn}
 use Rattle.heap_graph.specs.declared.names.Place.{Place}
 use Rattle.heap_graph.specs.declared.names.Place.TheVariants as place
 use Rattle.heap_graph.specs.Fork.{next_spot, promoted_from, promoted_place}
-use Rattle.heap_graph.specs.Formed.{AreRising}
+use Rattle.heap_graph.specs.Formed.{is_in_image, AreRising}
 use Rattle.heap_graph.specs.Graph.{greatest, is_immune, is_young, size_of_object, zygote_end, Object}
 use Rattle.image_space.specs.Space.{spots_from}
 use Rattle.image_space.proofs.SpotLemmas.{sum-cons}
@@ -36,6 +36,18 @@ pub promoted-in : (cs : List Class) (at : ℕ) (os : List Object) (o : Object) �
 promoted-in cs at [] o none = absurd none
 promoted-in cs at (x ∷ os) o (inl same) = (at, inl (ap (promoted_at at) same))
 promoted-in cs at (x ∷ os) o (inr later) = let it = promoted-in cs (next_spot at (size_of_object cs x) x.place) os o later in (it.0, inr it.1)
+
+-- objects of the image stay
+pub image-stays : (cs : List Class) (at : ℕ) (os : List Object) → AllByRecursion (λ o. is_in_image o.place ≡ true) os → promoted_from cs at os ≡ os
+image-stays cs at [] all = refl
+image-stays cs at (x ∷ os) all = by x.place refl all.0 (λ n. image-stays cs n os all.1)
+  where
+    by : (p : Place) → x.place ≡ p → is_in_image p ≡ true → ((n : ℕ) → promoted_from cs n os ≡ os) → record x { place = promoted_place at p } ∷ promoted_from cs (next_spot at (size_of_object cs x) p) os ≡ x ∷ os
+    by (place.Image spot) same is rest = ap (λ (q : Place). record x { place = q } ∷ promoted_from cs at os) (sym same) ∙ ap (λ (ys : List Object). x ∷ ys) (rest at)
+    by (place.Zygote spot) same is rest = absurd (true≢false (sym is))
+    by place.Young same is rest = absurd (true≢false (sym is))
+    by place.Large same is rest = absurd (true≢false (sym is))
+    by place.Promoted same is rest = absurd (true≢false (sym is))
 
 pub promoted-back : (cs : List Class) (at : ℕ) (os : List Object) (q : Object) → IsIn q (promoted_from cs at os) → (o : Object) × IsIn o os × ((spot : ℕ) × (promoted_at spot o ≡ q))
 promoted-back cs at [] q none = absurd none

@@ -53,7 +53,7 @@ use Rattle.evacuate.proofs.Sealed.{no-numbers, packs-none}
 use Rattle.evacuate.proofs.Stand.{in-regions-is}
 use Rattle.evacuate.proofs.Turned.{raw-back}
 use Rattle.zygote_compact.specs.Spots.{is_spot, HasSpots}
-use Rattle.zygote_compact.proofs.Lists.{count-same, ends-more, last_end, none-young, promoted-back, promoted_at, rows-promoted, spots, spots-more, stays}
+use Rattle.zygote_compact.proofs.Lists.{count-same, ends-more, image-stays, last_end, none-young, promoted-back, promoted_at, rows-promoted, spots, spots-more, stays}
 use Rattle.zygote_compact.proofs.Young.{young-are}
 
 -- where a segment begins is the next whole page
@@ -63,6 +63,13 @@ start-page fill = omega arith
 -- the slots of promoted rows are theirs
 same-slots : (rows : List LargeRow) → map (λ (row : LargeRow). row.slot) (map promoted_row rows) ≡ map (λ (row : LargeRow). row.slot) rows
 same-slots rows = map-twice (λ (row : LargeRow). row.slot) promoted_row rows
+
+-- a promotion leaves the graph formed; before the seal it changes nothing
+promoted-formed : (g : Graph) → has_zygote_room g ≡ true → IsFormed g → IsFormed (promoted g)
+promoted-formed g room formed = elim (cases_Bool g.sealed) [
+  | inl e ↦ promoted_formed g e room formed
+  | inr e ↦ subst (λ (os : List Object). IsFormed (record g { objects = os })) (sym (image-stays g.classes (promotion_start g) g.objects (formed.before_seal e))) formed
+]
 
 module _ (h : HeapState) (old new : Memory) (t : ℕ) (g : Graph) (z : zygote.Space) (regions : Space) (rows : List LargeRow) (roots : List Addr) (after : zygote.Space)
     (k : HoldsHeap h old t g) (s : HasSpots z g) (room : has_zygote_room g ≡ true) (c : IsPromoted h new t (raws_of (homes_of h) g) z regions rows roots after) where
@@ -82,7 +89,7 @@ module _ (h : HeapState) (old new : Memory) (t : ℕ) (g : Graph) (z : zygote.Sp
   next = table_of (homes_in regions.in_use rows) (promoted g)
 
   pub formed : IsFormed (promoted g)
-  formed = promoted_formed g k.is_sealed room k.formed
+  formed = promoted-formed g room k.formed
 
   -- HOMES
 

@@ -11,7 +11,7 @@ use Rattle.cow_pages.specs.Memory.{Memory}
 use Rattle.heap_graph.specs.declared.names.Place.{Place}
 use Rattle.heap_graph.specs.declared.names.Place.TheVariants as place
 use Rattle.heap_graph.specs.Collection.{cleared, collect}
-use Rattle.heap_graph.specs.Formed.{FillZygote, IsBehindZygote, is_in_image, zygote_next}
+use Rattle.heap_graph.specs.Formed.{FillZygote, IsBehindZygote, IsFormed, is_in_image, zygote_next}
 use Rattle.heap_graph.specs.Graph.{greatest, is_immune, size_of_object, zygote_end, zygote_fill, Graph, Object}
 use Rattle.heap_graph.specs.Paths.{numbers}
 use Rattle.heap_graph.specs.Reach.{is_among, reached}
@@ -20,6 +20,7 @@ use Rattle.heap_graph.proofs.Sizes.{size-least}
 use Rattle.heap_world.proofs.Placed.{top-is, zygote_top}
 use Rattle.image_space.specs.Space.{holds_first, pages_up_to}
 use Rattle.address_table.specs.Computed.{table_of}
+use Rattle.address_table.proofs.Beside.{all-in}
 use Rattle.address_table.proofs.Fitting.{fits}
 use Rattle.mark_bitmap.specs.Marks.{is_marked}
 use Rattle.region_space.specs.Space.{lists_of}
@@ -27,6 +28,7 @@ use Rattle.zygote_space.specs.Space as zygote
 use Rattle.zygote_space.specs.Space.{HasPagesUpTo}
 use Rattle.graph_pages.specs.Collected.{keeps}
 use Rattle.graph_pages.specs.Pages.{has_bytes_in}
+use Rattle.graph_pages.proofs.Lists.{in-filter, in-map}
 use Rattle.world_laws.proofs.Named.{fills-collect}
 use Rattle.object_collection.specs.Collects.{HeapState}
 use Rattle.evacuate.specs.Stands.{homes_of, HasSealed, HoldsHeap}
@@ -150,14 +152,6 @@ spot-immune q sealed place.Young e = absurd (true≢false (sym e))
 spot-immune q sealed place.Large e = absurd (true≢false (sym e))
 spot-immune q sealed place.Promoted e = absurd (true≢false (sym e))
 
-pub collected-spots : (h : HeapState) (m : Memory) (t : ℕ) (g : Graph) (s : zygote.Space) → HoldsHeap h m t g → HasSpots s g → HasSpots s (collect g)
-collected-spots h m t g s k has = record {
-  closed = has.closed;
-  fill = has.fill ∙ sym (fills-collect g k.is_sealed k.formed).1;
-  starts = λ q. has.starts q
-      ∙ sym (spots-kept q (keeps g) (numbers (filter (keeps g) g.objects)) g.objects (λ o spot. or_left (is_immune g.sealed o.place) (is_among (reached g) o.number) (spot-immune q g.sealed o.place spot)));
-}
-
 image-spot : (q : ℕ) (at : Place) → is_in_image at ≡ true → is_spot q at ≡ false
 image-spot q (place.Image spot) e = refl
 image-spot q (place.Zygote spot) e = absurd (true≢false (sym e))
@@ -179,6 +173,27 @@ none-spot q (x ∷ os) all = ap (λ b. b || list_any (λ (o : Object). is_spot q
 none-end : (cs : List Class) (os : List Object) → ((o : Object) → IsIn o os → is_in_image o.place ≡ true) → greatest (map (λ (o : Object). zygote_end cs o o.place) os) ≡ 0
 none-end cs [] all = refl
 none-end cs (x ∷ os) all = omega (arith, image-end cs x x.place (all x (inl refl)), none-end cs os (λ o there. all o (inr there)))
+
+-- a collection leaves where they end; before the seal there are none
+collected-fill : (g : Graph) → IsFormed g → zygote_fill (collect g) ≡ zygote_fill g
+collected-fill g formed = elim (cases_Bool g.sealed) [
+  | inl e ↦ (fills-collect g e formed).1
+  | inr e ↦
+      let all : (o : Object) → IsIn o g.objects → is_in_image o.place ≡ true = λ o there. all-in (λ o. is_in_image o.place ≡ true) g.objects o there (formed.before_seal e) in
+      let kept : List ℕ = numbers (filter (keeps g) g.objects) in
+      none-end g.classes (map (cleared kept) (filter (keeps g) g.objects)) (λ q there.
+      let it = in-map (cleared kept) (filter (keeps g) g.objects) q there in
+      ap (λ (o : Object). is_in_image o.place) (sym it.2) ∙ all it.0 (in-filter (keeps g) g.objects it.0 it.1).0)
+      ∙ sym (none-end g.classes g.objects all)
+]
+
+pub collected-spots : (h : HeapState) (m : Memory) (t : ℕ) (g : Graph) (s : zygote.Space) → HoldsHeap h m t g → HasSpots s g → HasSpots s (collect g)
+collected-spots h m t g s k has = record {
+  closed = has.closed;
+  fill = has.fill ∙ sym (collected-fill g k.formed);
+  starts = λ q. has.starts q
+      ∙ sym (spots-kept q (keeps g) (numbers (filter (keeps g) g.objects)) g.objects (λ o spot. or_left (is_immune g.sealed o.place) (is_among (reached g) o.number) (spot-immune q g.sealed o.place spot)));
+}
 
 pub sealed-spots : (h : HeapState) (m : Memory) (t : ℕ) (g : Graph) (s : zygote.Space) → HasSealed h m t g → s.fill ≡ 0 → ((q : ℕ) → is_marked s.starts q ≡ false) → (s.fill ≡ zygote_fill g) × ((q : ℕ) → is_marked s.starts q ≡ list_any (λ (o : Object). is_spot q o.place) g.objects)
 sealed-spots h m t g s sealed fill starts = (fill ∙ sym (none-end g.classes g.objects sealed.in_image), λ q. starts q ∙ sym (none-spot q g.objects sealed.in_image))

@@ -36,11 +36,11 @@ pub fn graphs_can_be_promoted()
 {}
 
 /// After a promotion of the objects, for which there was room, the process holds the promoted graph, whichever slots it is to
-/// keep. No slot leads out, so it keeps the graph without any, and the zygote space has the graph's spots.
+/// keep. No slot leads out, so it keeps a sealed graph without any, and the zygote space has the graph's spots.
 pub fn promoted_graphs_are_kept()
     ensures held { (h : HeapState) (old new : Memory) (t : ℕ) (g : Graph) (z : zygote.Space) (regions : Space) (rows : List LargeRow) (roots : List Addr) (after : zygote.Space) → HoldsHeap h old t g → HasSpots z g → has_zygote_room g ≡ true
         → IsPromoted h new t (raws_of (homes_of h) g) z regions rows roots after → LeavesPages h old new t z.fill (promotion_bytes g) → (slots : List Slot) → HoldsHeap (state_of h.classes regions rows roots slots) new t (promoted g) }
-    ensures kept { (h : HeapState) (old new : Memory) (t : ℕ) (g : Graph) (z : zygote.Space) (regions : Space) (rows : List LargeRow) (roots : List Addr) (after : zygote.Space) → HoldsHeap h old t g → HasSpots z g → has_zygote_room g ≡ true
+    ensures kept { (h : HeapState) (old new : Memory) (t : ℕ) (g : Graph) (z : zygote.Space) (regions : Space) (rows : List LargeRow) (roots : List Addr) (after : zygote.Space) → HoldsHeap h old t g → HasSpots z g → g.sealed ≡ true → has_zygote_room g ≡ true
         → IsPromoted h new t (raws_of (homes_of h) g) z regions rows roots after → LeavesPages h old new t z.fill (promotion_bytes g) → KeepsGraph (state_of h.classes regions rows roots []) new t (promoted g) }
     ensures spots { (h : HeapState) (old new : Memory) (t : ℕ) (g : Graph) (z : zygote.Space) (regions : Space) (rows : List LargeRow) (roots : List Addr) (after : zygote.Space) → HoldsHeap h old t g → HasSpots z g → has_zygote_room g ≡ true
         → IsPromoted h new t (raws_of (homes_of h) g) z regions rows roots after → HasSpots after (promoted g) }

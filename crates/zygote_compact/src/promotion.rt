@@ -1,5 +1,5 @@
 //! A promotion of the graph that a process holds in its pages.
-ghost use Rattle.std.specs.Prelude.{◌≡◌, ◌⊎◌, [], Err, IfErr, IfOk, OnErr, OnOk, List, false, length};
+ghost use Rattle.std.specs.Prelude.{◌≡◌, ◌⊎◌, [], Err, IfErr, IfOk, OnErr, OnOk, List, false, length, map};
 ghost use Rattle.cow_pages.specs.Memory.{IsSound};
 ghost use Rattle.cow_pages.specs.Only.{OnlyTable};
 ghost use Rattle.heap_graph.specs.Fork.{has_zygote_room, promoted, promotion_bytes, promotion_start};
@@ -7,6 +7,7 @@ ghost use Rattle.heap_graph.specs.Graph.{zygote_fill, Graph};
 ghost use Rattle.heap_graph.specs.Packing.{young_objects};
 ghost use Rattle.heap_world.specs.Acts.{promotion_allowance};
 ghost use Rattle.image_space.specs.Space.{pages_up_to, KeepsPages};
+ghost use Rattle.large_objects.specs.Rows.{promoted_row};
 ghost use Rattle.object_view.specs.declared.names.Slot.{Slot};
 ghost use Rattle.object_view.specs.Seen.{RoseBy};
 ghost use Rattle.object_collection.specs.Collects.{state_of};
@@ -49,6 +50,7 @@ pub fn promote(
         → HoldsHeap (state_of classes.now regions.new larges.new roots.new further) frames.new t.0 (promoted g)) }
     ensures kept { OnOk result ((g : Graph) → KeepsGraph (state_of classes.now regions.old larges.old roots.old slots.now) frames.old t.0 g → HasSpots zygote.old g → KeepsGraph (state_of classes.now regions.new larges.new roots.new []) frames.new t.0 (promoted g)) }
     ensures spots { OnOk result ((g : Graph) → KeepsGraph (state_of classes.now regions.old larges.old roots.old slots.now) frames.old t.0 g → HasSpots zygote.old g → HasSpots zygote.new (promoted g)) }
+    ensures rows { OnOk result (larges.new ≡ map promoted_row larges.old) }
     ensures count { IfOk result (λ n. (g : Graph) → KeepsGraph (state_of classes.now regions.old larges.old roots.old slots.now) frames.old t.0 g → HasSpots zygote.old g → n ≡ length (young_objects g)) }
     ensures pages { OnOk result ((g : Graph) → KeepsGraph (state_of classes.now regions.old larges.old roots.old slots.now) frames.old t.0 g → HasSpots zygote.old g
         → LeavesPages (state_of classes.now regions.old larges.old roots.old slots.now) frames.old frames.new t.0 (zygote_fill g) (promotion_bytes g)) }

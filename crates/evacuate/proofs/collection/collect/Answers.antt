@@ -7,6 +7,7 @@ use Rattle.evacuate.proofs.Can.{can}
 use Rattle.evacuate.proofs.Counted.{counted, freed}
 use Rattle.evacuate.proofs.Kept.{graph-kept, heap-left, stood-before}
 use Rattle.evacuate.proofs.Outcomes.{if_ok_all}
+use Rattle.evacuate.proofs.Rows.{row-before}
 use Rattle.evacuate.proofs.Turned.{state-left}
 use Rattle.evacuate.proofs.collection.collect.Goals as goal
 
@@ -28,6 +29,11 @@ returns-clause-kept c =
     let is = c.collect_objects.ensures in
     on_ok_both c.collect_objects.result (λ collected pages g slots keeps. graph-kept _ _ _ _ g _ _ _ slots keeps (collected _ (can _ _ _ g keeps)) (pages _ (can _ _ _ g keeps))) is.collected is.pages
 
+pub returns-clause-rows : goal.returns-clause-rows
+returns-clause-rows c =
+    let is = c.collect_objects.ensures in
+    on_ok_weaker c.collect_objects.result (λ collected row there. row-before _ _ _ row (collected _ (can _ _ _ c.requires.0 c.requires.1)).rows_left there) is.collected
+
 pub returns-clause-pages : goal.returns-clause-pages
 returns-clause-pages c =
     let is = c.collect_objects.ensures in
@@ -38,6 +44,6 @@ returns-clause-counts c =
     let is = c.collect_objects.ensures in
     if_ok_all c.collect_objects.result (λ it kept all collected g keeps.
     let stands = state-left _ _ _ _ g _ _ _ keeps (collected _ (can _ _ _ g keeps)) c.args.slots.now in
-    let before = counted _ g keeps.heap.is_sealed keeps.heap.stands in
-    let after = counted _ (collect g) keeps.heap.is_sealed stands in
+    let before = counted _ g keeps.is_sealed keeps.heap.stands in
+    let after = counted _ (collect g) keeps.is_sealed stands in
     (omega (arith, kept, after), omega (arith, kept, all, before, after, freed g))) is.kept is.freed is.collected

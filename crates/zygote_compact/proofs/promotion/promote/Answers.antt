@@ -46,13 +46,16 @@ pub returns-clause-kept : goal.returns-clause-kept
 returns-clause-kept c =
     on_ok_three c.promote_objects.result (λ promoted pages room g k s.
     graph-kept _ _ _ _ g _ _ _ _ _ k.heap s (room g (k, s)) (promoted _ (can-promote _ _ _ g _ s k))
-    (pages-are _ _ _ g _ s k.heap _ (pages _ _ (can-promote _ _ _ g _ s k) (are-young _ _ _ g k.heap))))
+    (pages-are _ _ _ g _ s k.heap _ (pages _ _ (can-promote _ _ _ g _ s k) (are-young _ _ _ g k.heap))) k.is_sealed)
     c.promote_objects.ensures.promoted c.promote_objects.ensures.pages (had-room c)
 
 pub returns-clause-spots : goal.returns-clause-spots
 returns-clause-spots c =
     on_ok_both c.promote_objects.result (λ promoted room g k s. spots-left _ _ _ _ g _ _ _ _ _ k.heap s (room g (k, s)) (promoted _ (can-promote _ _ _ g _ s k)))
     c.promote_objects.ensures.promoted (had-room c)
+
+pub returns-clause-rows : goal.returns-clause-rows
+returns-clause-rows c = on_ok_weaker c.promote_objects.result (λ promoted. (promoted _ (can-promote _ _ _ c.requires.0 _ c.requires.2 c.requires.1)).rows_promoted) c.promote_objects.ensures.promoted
 
 pub returns-clause-count : goal.returns-clause-count
 returns-clause-count c = IfOk-weaker c.promote_objects.result _ _ (λ n is g k s. is ∙ k.heap.stands.objects) c.promote_objects.ensures.count
