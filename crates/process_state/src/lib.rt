@@ -1,10 +1,12 @@
 //! A process in memory: what it keeps, when it stands for a part of the world, and what a step of it does.
 #![tactic(auto)]
 
+mod acting;
 mod collections;
 mod laws;
 mod slots;
 
+pub use acting::{answers_act, steps_follow_one_another};
 pub use collections::collections_act;
 pub use laws::{
     dropped_roots_stand, forked_processes_stand, others_leave_it_standing, uncounted_changes_leave_it_standing,
