@@ -4,6 +4,6 @@
 mod laws;
 
 pub use laws::{
-    dropped_roots_stand, forked_processes_stand, others_leave_it_standing, uncounted_changes_leave_it_standing,
-    written_roots_stand,
+    dropped_roots_stand, forked_processes_stand, others_leave_it_standing,
+    uncounted_changes_leave_it_standing, written_roots_stand,
 };
