@@ -4,3 +4,7 @@ pub mod Outward
 pub mod Updating
 pub mod Keeping
 pub mod Updated
+pub mod Same
+pub mod Roots
+pub mod Forked
+pub mod Acting

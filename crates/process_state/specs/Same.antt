@@ -1,5 +1,5 @@
 -- What a process needs of a memory, as other processes leave it.
-use Rattle.std.specs.Prelude.{◌≡◌, ℕ, Bool, true, false, not, ◌&&◌, ◌||◌, filter}
+use Rattle.std.specs.Prelude.{◌≡◌, ℕ, Bool, true, not, ◌&&◌, ◌||◌, filter}
 use Rattle.std.specs.List.{list_any}
 use Rattle.page_tables.specs.declared.address.Window.TheVariants.{Image}
 use Rattle.page_tables.specs.Address.{is_in}

@@ -1,0 +1,5 @@
+use Rattle.process_state.proofs.Acting.{answers}
+use Rattle.process_state.proofs.acting.answers_act.Goals as goal
+
+pub returns : goal.returns
+returns c = answers
