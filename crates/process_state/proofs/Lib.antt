@@ -7,4 +7,4 @@ pub mod Updated
 pub mod Same
 pub mod Roots
 pub mod Forked
-pub mod Acting
+pub mod Following

@@ -1,5 +1,5 @@
 -- What an answer does, and two steps one after the other.
-use Rattle.std.proofs.Common.{◌≡◌, ◌⊎◌, ◌∙◌, ℕ, [], true, false, refl, ap, sym, subst, inl, inr, cases_Bool, absurd}
+use Rattle.std.proofs.Common.{◌≡◌, ◌⊎◌, ◌∙◌, ℕ, [], true, false, refl, ap, sym, subst, inl, inr}
 use Rattle.cow_pages.specs.Memory.{frame_at, HasOneSharer, IsSound, Memory}
 use Rattle.cow_pages.proofs.OnlyLemmas.{only-trans}
 use Rattle.heap_world.specs.declared.names.PageName.{PageName}
