@@ -21,13 +21,12 @@ use Rattle.heap_graph.specs.declared.names.Shape.TheVariants.{Array, Instance}
 use Rattle.heap_graph.specs.Formed.{is_in_image, SuitsShape}
 use Rattle.heap_graph.specs.Graph.{is_immune, Graph, Object}
 use Rattle.heap_graph.specs.Places.{places_of}
-use Rattle.heap_graph.specs.Sizes.{is_large, is_primitive_array, unrounded}
+use Rattle.heap_graph.specs.Sizes.{is_large, unrounded}
 use Rattle.heap_graph.proofs.Places.{bytes-low, place-slot, stored-slot}
 use Rattle.heap_world.specs.declared.names.Card.{Card}
 use Rattle.heap_world.specs.declared.names.Card.TheVariants as card
 use Rattle.heap_world.specs.declared.names.PageName.{PageName}
 use Rattle.heap_world.specs.Part.{Part}
-use Rattle.heap_world.specs.Pages.{is_touched, standing_pages}
 use Rattle.heap_world.proofs.Standing as standing
 use Rattle.world_laws.specs.Named.{stands}
 use Rattle.world_laws.proofs.StandingLists.{standing_lists}

@@ -16,7 +16,7 @@ use Rattle.heap_graph.specs.declared.names.Place.{Place}
 use Rattle.heap_graph.specs.declared.names.Shape.{Shape}
 use Rattle.heap_graph.specs.declared.names.Stored.{Stored}
 use Rattle.heap_graph.specs.Formed.{AreRising, AreSlots, FitsKind}
-use Rattle.heap_graph.specs.Graph.{is_immune, object_at, Graph, Object}
+use Rattle.heap_graph.specs.Graph.{is_immune, Graph, Object}
 use Rattle.heap_graph.specs.Places.{places_of}
 use Rattle.heap_graph.specs.Sizes.{size_in}
 use Rattle.heap_graph.specs.Values.{empty_slot, value_at, value_if}
@@ -28,7 +28,7 @@ use Rattle.world_laws.proofs.OutwardPages.{cards_one}
 use Rattle.object_view.specs.declared.names.Slot.{Slot}
 use Rattle.object_view.specs.Seen.{seen_value, value_in}
 use Rattle.object_view.proofs.Laid.{places-laid, ref-kind, size-bounds}
-use Rattle.raw_objects.specs.Raws.{Raw, Raws}
+use Rattle.raw_objects.specs.Raws.{Raw}
 use Rattle.raw_objects.specs.References.{in_regions}
 use Rattle.address_table.specs.Computed.{Homes}
 use Rattle.address_table.proofs.Behind.{rising-in}

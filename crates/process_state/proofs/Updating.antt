@@ -1,12 +1,11 @@
 -- The cards of a space can be updated.
 use Rattle.std.proofs.Common.{◌≡◌, ◌∙◌, ℕ, ◌+◌, Bool, true, sym, ap, subst, arith}
 use Rattle.card_table.specs.CardSet.{card_of}
-use Rattle.class_layout.specs.ClassList.{Class}
 use Rattle.class_layout.specs.Placing.{IsIn}
 use Rattle.cow_pages.specs.Memory.{Memory}
 use Rattle.cow_pages.specs.View.{view_of}
 use Rattle.heap_graph.specs.declared.names.Place.{Place}
-use Rattle.heap_graph.specs.Graph.{size_of_object, Object}
+use Rattle.heap_graph.specs.Graph.{size_of_object}
 use Rattle.heap_graph.specs.Places.{places_of}
 use Rattle.heap_graph.specs.Sizes.{size_in}
 use Rattle.heap_world.specs.declared.names.Card.{Card}
