@@ -5,7 +5,9 @@ mod laws;
 mod slots;
 
 pub use laws::{
-    dropped_roots_stand, forked_processes_stand, others_leave_it_standing, uncounted_changes_leave_it_standing,
-    written_roots_stand,
+    dropped_roots_stand, forked_processes_stand, others_leave_it_standing,
+    uncounted_changes_leave_it_standing, written_roots_stand,
 };
-pub use slots::{graphs_are_kept, noted_cards_are_counted, spaces_can_be_updated, updated_processes_stand};
+pub use slots::{
+    graphs_are_kept, noted_cards_are_counted, spaces_can_be_updated, updated_processes_stand,
+};
