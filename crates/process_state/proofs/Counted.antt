@@ -1,5 +1,5 @@
 -- The numbers of the noted cards.
-use Rattle.std.proofs.Common.{◌≡◌, ◌∙◌, ℕ, ◌+◌, ◌-◌, ◌≤◌, Bool, true, false, List, [], ◌∷◌, length, nat_eq, refl, sym, ap, subst, inl, inr, arith, true≢false}
+use Rattle.std.proofs.Common.{◌≡◌, ℕ, ◌+◌, ◌-◌, ◌≤◌, true, List, [], ◌∷◌, length, nat_eq, sym, ap, subst, inl, inr, arith, true≢false}
 use Rattle.std.specs.List.{AllByRecursion}
 use Rattle.std.proofs.lemmas.Bool.{eqb-true, or_cases}
 use Rattle.model_numbers.specs.Numbers.{image_base, zygote_base}
@@ -12,7 +12,7 @@ use Rattle.heap_world.specs.Cards as world
 use Rattle.heap_world.specs.Part.{Part}
 use Rattle.heap_world.proofs.Noted.{has-cards, stays-cards}
 use Rattle.mod_union.specs.ModUnion.{is_noted}
-use Rattle.process_state.specs.Cards.{card_number, has_noted, NotesCards}
+use Rattle.process_state.specs.Cards.{card_number, NotesCards}
 use Rattle.process_state.specs.Slots.{CountCards}
 use Rattle.process_state.specs.State.{State}
 

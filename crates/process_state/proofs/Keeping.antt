@@ -4,7 +4,7 @@ use Rattle.std.specs.Prelude.{nat_le, IsTrue}
 use Rattle.std.specs.List.{AllByRecursion, IsDistinct}
 use Rattle.std.proofs.lemmas.Bool.{and_parts, ne_eqb}
 use Rattle.std.proofs.lemmas.Option.{same_Some}
-use Rattle.model_numbers.specs.Numbers.{image_base, image_length, least_large, zygote_base, zygote_length}
+use Rattle.model_numbers.specs.Numbers.{least_large, zygote_base}
 use Rattle.class_layout.specs.declared.kind.FieldAt.{FieldAt}
 use Rattle.class_layout.specs.declared.kind.Kind.{Kind}
 use Rattle.class_layout.specs.declared.kind.Kind.TheVariants.{Ref}
@@ -21,13 +21,10 @@ use Rattle.heap_graph.specs.declared.names.Shape.TheVariants.{Array, Instance}
 use Rattle.heap_graph.specs.Formed.{is_in_image, SuitsShape}
 use Rattle.heap_graph.specs.Graph.{is_immune, Graph, Object}
 use Rattle.heap_graph.specs.Places.{places_of}
-use Rattle.heap_graph.specs.Sizes.{is_large, is_primitive_array, unrounded}
+use Rattle.heap_graph.specs.Sizes.{is_large, unrounded}
 use Rattle.heap_graph.proofs.Places.{bytes-low, place-slot, stored-slot}
-use Rattle.heap_world.specs.declared.names.Card.{Card}
-use Rattle.heap_world.specs.declared.names.Card.TheVariants as card
 use Rattle.heap_world.specs.declared.names.PageName.{PageName}
 use Rattle.heap_world.specs.Part.{Part}
-use Rattle.heap_world.specs.Pages.{is_touched, standing_pages}
 use Rattle.heap_world.proofs.Standing as standing
 use Rattle.world_laws.specs.Named.{stands}
 use Rattle.world_laws.proofs.StandingLists.{standing_lists}
@@ -48,7 +45,7 @@ use Rattle.process_state.specs.Slots.{is_in_zygote, raws_in}
 use Rattle.process_state.specs.Stands.{StandsIn}
 use Rattle.process_state.specs.State.{addresses_in, heap_of, State}
 use Rattle.process_state.proofs.Outward.{mortal-of, outside-is, slot-lies, stored-out}
-use Rattle.process_state.proofs.Spaces.{image-window, in-space, to-space, zygote-window, IsWindow}
+use Rattle.process_state.proofs.Spaces.{image-window, in-space, place-of, the_image, the_zygote, to-space, zygote-window, IsWindow, SpotWindow}
 
 -- LISTS
 
@@ -110,17 +107,17 @@ module _ (s : State) (m : Memory) (p : Part) (k : StandsIn s m p) (sealed : p.gr
   whole-at o a there at = subst (λ n. (whole.has n ≡ true) × (whole.raw n ≡ raw_under table o)) at (raw-there homes g k.heap.formed k.heap.house o there)
 
   -- an outward slot of a window leads out, and its page has its frame alone
-  module _ (test : Place → Bool) (make : ℕ → Card) (base bytes : ℕ) (w : IsWindow s m p k test make base bytes) (slots : List Slot) where
-    leads-out : (slot : Slot) → IsOut test slot → LeadsOut (heap_of s slots) whole slot
+  module _ (w : SpotWindow) (is_window : IsWindow s m p k w) (slots : List Slot) where
+    leads-out : (slot : Slot) → IsOut w.has slot → LeadsOut (heap_of s slots) whole slot
     leads-out slot is =
-        let it = in-space s m p k test is.object is.has in
+        let it = in-space s m p k w.has is.object is.has in
         let all = whole-at it.object is.object it.is_in it.at_is in
-        let same : (raws_in test s p.graph).raw is.object ≡ whole.raw is.object = it.raw_is ∙ sym all.1 in
+        let same : (raws_in w.has s p.graph).raw is.object ≡ whole.raw is.object = it.raw_is ∙ sym all.1 in
         record {
           object = is.object;
           place = is.place;
           has = all.0;
-          immune = ap (is_mortal s.rows) (sym it.at_is) ∙ mortal-of s m p k sealed it.object it.is_in ∙ ap not (w.spots it.object it.is_in it.here).immune;
+          immune = ap (is_mortal s.rows) (sym it.at_is) ∙ mortal-of s m p k sealed it.object it.is_in ∙ ap not (is_window.spots it.object it.is_in it.here).immune;
           is_in = subst (λ (r : Raw). IsIn is.place (places_of s.classes r.shape)) same is.is_in;
           kind_is = is.kind_is;
           at_is = is.at_is;
@@ -129,12 +126,12 @@ module _ (s : State) (m : Memory) (p : Part) (k : StandsIn s m p) (sealed : p.gr
           outside = sym (outside-is s m p k sealed slot.target.0) ∙ is.outside;
         }
 
-    page-alone : (slot : Slot) → IsOut test slot → HasOneSharer m s.page_table (page_of slot.at.0)
+    page-alone : (slot : Slot) → IsOut w.has slot → HasOneSharer m s.page_table (page_of slot.at.0)
     page-alone slot is =
-        let it = stored-out s m p k sealed test slot is in
+        let it = stored-out s m p k sealed w.has slot is in
         let o : Object = it.object in
         let offset : ℕ = it.stored.at.offset in
-        let spot = w.spots o it.is_in it.here in
+        let spot = is_window.spots o it.is_in it.here in
         let immune : is_immune g.sealed o.place ≡ true = ap (λ b. is_immune b o.place) sealed ∙ spot.immune in
         let among = k.outward o it.stored it.is_in it.there immune it.out in
         let lies = standing.slot-lies g.classes o.shape it.stored.at (stored-slot g o it.stored k.heap.formed it.is_in it.there) in
@@ -173,8 +170,7 @@ module _ (s : State) (m : Memory) (p : Part) (k : StandsIn s m p) (sealed : p.gr
         let o : Object = it.object in
         let all = whole-at o is.object it.is_in it.at_is in
         let immune : not (is_immune true o.place) ≡ false = sym (mortal-of s m p k sealed o it.is_in) ∙ ap (is_mortal s.rows) it.at_is ∙ is.immune in
-        let within : IsIn is.place (places_of g.classes o.shape) =
-        subst (λ (r : Raw). IsIn is.place (places_of g.classes r.shape)) all.1 (subst (λ cs. IsIn is.place (places_of cs (whole.raw is.object).shape)) k.heap.stands.classes is.is_in) in
+        let within = place-of s m p k (whole.raw is.object) o is.place all.1 is.is_in in
         by o o.place immune (all-in (λ (y : Object). SuitsShape g.classes y y.place) g.objects o it.is_in k.heap.formed.places)
         (λ large. large-holds-none g.classes o.shape is.place k.heap.formed.classes large within is.kind_is)
         (out-of is_in_image o it.is_in it.at_is) (out-of is_in_zygote o it.is_in it.at_is)
@@ -197,9 +193,9 @@ module _ (s : State) (m : Memory) (p : Part) (k : StandsIn s m p) (sealed : p.gr
 
     pub keeps-graph : KeepsGraph (heap_of s (image ++ zygote)) m s.page_table p.graph
     keeps-graph = record {
+      is_sealed = sealed;
       heap = record {
         formed = k.heap.formed;
-        is_sealed = sealed;
         house = k.heap.house;
         pages = k.heap.pages;
         stands = record {
@@ -220,18 +216,18 @@ module _ (s : State) (m : Memory) (p : Part) (k : StandsIn s m p) (sealed : p.gr
       };
       out = record {
         exact = λ slot. (
-          each (LeadsOut (heap_of s slots) whole) (leads-out is_in_image card.Image image_base image_length (image-window s m p k) slots)
-              (leads-out is_in_zygote card.Zygote zygote_base zygote_length (zygote-window s m p k) slots) slot,
+          each (LeadsOut (heap_of s slots) whole) (leads-out the_image (image-window s m p k) slots)
+              (leads-out the_zygote (zygote-window s m p k) slots) slot,
           (λ is. elim (out-of-one slots slot is) [
             | inl one ↦ IsIn-left slot image zygote ((of_image.exact slot).1 one)
             | inr other ↦ IsIn-right slot image zygote ((of_zygote.exact slot).1 other)
           ]),
         );
         once = slots-once 0 slots (rising-joined 0 zygote_base image zygote (omega arith) of_image.rising
-            (λ slot there. let lies = slot-lies s m p k sealed is_in_image card.Image image_base image_length (image-window s m p k) slot ((of_image.exact slot).0 there) in omega (arith, lies.1))
+            (λ slot there. let lies = slot-lies s m p k sealed the_image (image-window s m p k) slot ((of_image.exact slot).0 there) in omega (arith, lies.1))
             (rising-higher zygote_base zygote of_zygote.rising
-            (λ slot there. (slot-lies s m p k sealed is_in_zygote card.Zygote zygote_base zygote_length (zygote-window s m p k) slot ((of_zygote.exact slot).0 there)).0)));
+            (λ slot there. (slot-lies s m p k sealed the_zygote (zygote-window s m p k) slot ((of_zygote.exact slot).0 there)).0)));
       };
-      alone = each (λ (slot : Slot). HasOneSharer m s.page_table (page_of slot.at.0)) (page-alone is_in_image card.Image image_base image_length (image-window s m p k) slots)
-          (page-alone is_in_zygote card.Zygote zygote_base zygote_length (zygote-window s m p k) slots);
+      alone = each (λ (slot : Slot). HasOneSharer m s.page_table (page_of slot.at.0)) (page-alone the_image (image-window s m p k) slots)
+          (page-alone the_zygote (zygote-window s m p k) slots);
     }

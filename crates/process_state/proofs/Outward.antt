@@ -16,7 +16,7 @@ use Rattle.heap_graph.specs.declared.names.Place.{Place}
 use Rattle.heap_graph.specs.declared.names.Shape.{Shape}
 use Rattle.heap_graph.specs.declared.names.Stored.{Stored}
 use Rattle.heap_graph.specs.Formed.{AreRising, AreSlots, FitsKind}
-use Rattle.heap_graph.specs.Graph.{is_immune, object_at, Graph, Object}
+use Rattle.heap_graph.specs.Graph.{is_immune, Graph, Object}
 use Rattle.heap_graph.specs.Places.{places_of}
 use Rattle.heap_graph.specs.Sizes.{size_in}
 use Rattle.heap_graph.specs.Values.{empty_slot, value_at, value_if}
@@ -28,7 +28,7 @@ use Rattle.world_laws.proofs.OutwardPages.{cards_one}
 use Rattle.object_view.specs.declared.names.Slot.{Slot}
 use Rattle.object_view.specs.Seen.{seen_value, value_in}
 use Rattle.object_view.proofs.Laid.{places-laid, ref-kind, size-bounds}
-use Rattle.raw_objects.specs.Raws.{Raw, Raws}
+use Rattle.raw_objects.specs.Raws.{Raw}
 use Rattle.raw_objects.specs.References.{in_regions}
 use Rattle.address_table.specs.Computed.{Homes}
 use Rattle.address_table.proofs.Behind.{rising-in}
@@ -43,7 +43,7 @@ use Rattle.evacuate.proofs.Stand.{are-rows, mortal-is}
 use Rattle.process_state.specs.Slots.{raws_in}
 use Rattle.process_state.specs.Stands.{StandsIn}
 use Rattle.process_state.specs.State.{addresses_in, State}
-use Rattle.process_state.proofs.Spaces.{in-space, reference, to-space, IsWindow}
+use Rattle.process_state.proofs.Spaces.{in-space, place-of, reference, to-space, IsWindow, SpotWindow}
 
 -- an object is found by its number
 found-object : (low next : ℕ) (os : List Object) (q : Object) → AreRising low next os → IsIn q os → find (λ (x : Object). nat_eq x.number q.number) os ≡ Some q
@@ -105,11 +105,11 @@ module _ (s : State) (m : Memory) (p : Part) (k : StandsIn s m p) (sealed : p.gr
   outside-is a = elim (cases_Bool (in_large a)) [
     | inl inside ↦ ap (λ b. in_regions a || (b && stays_out (row_at s.rows a))) inside ∙ ap (λ b. in_regions a || b) (same-stay (row_at s.rows a))
     | inr off ↦ elim (cases_Bool (in_regions a)) [
-        | inl young ↦ or_left _ _ young ∙ sym (or_left _ _ young)
-        | inr old ↦
-            ap (λ b. b || (in_large a && stays_out (row_at s.rows a))) old ∙ ap (λ b. b && stays_out (row_at s.rows a)) off
-            ∙ sym (immune-off s.rows a (subst AreRows (sym k.heap.stands.rows) (are-rows homes g k.heap.formed k.heap.house)) old off)
-      ]
+      | inl young ↦ or_left _ _ young ∙ sym (or_left _ _ young)
+      | inr old ↦
+          ap (λ b. b || (in_large a && stays_out (row_at s.rows a))) old ∙ ap (λ b. b && stays_out (row_at s.rows a)) off
+          ∙ sym (immune-off s.rows a (subst AreRows (sym k.heap.stands.rows) (are-rows homes g k.heap.formed k.heap.house)) old off)
+    ]
   ]
 
   pub mortal-of : (q : Object) → IsIn q p.graph.objects → is_mortal s.rows (addresses_in s p.graph q.number) ≡ not (is_immune true q.place)
@@ -133,9 +133,7 @@ module _ (s : State) (m : Memory) (p : Part) (k : StandsIn s m p) (sealed : p.gr
   stored-out test slot is =
       let it = in-space s m p k test is.object is.has in
       let o : Object = it.object in
-      let within : IsIn is.place (places_of g.classes o.shape) =
-      subst (λ (r : Raw). IsIn is.place (places_of g.classes r.shape)) it.raw_is
-      (subst (λ cs. IsIn is.place (places_of cs ((raws_in test s p.graph).raw is.object).shape)) k.heap.stands.classes is.is_in) in
+      let within = place-of s m p k ((raws_in test s p.graph).raw is.object) o is.place it.raw_is is.is_in in
       let value : pos slot.target.0 ≡ value_in table o is.place = is.target_is ∙ ap (λ (r : Raw). r.values is.place) it.raw_is in
       elim (reference s m p k o is.place it.is_in within is.kind_is) [
         | inl null ↦
@@ -197,37 +195,35 @@ module _ (s : State) (m : Memory) (p : Part) (k : StandsIn s m p) (sealed : p.gr
 
   -- IN A WINDOW
 
-  module _ (test : Place → Bool) (make : ℕ → Card) (base bytes : ℕ) (w : IsWindow s m p k test make base bytes) where
+  module _ (w : SpotWindow) (is_window : IsWindow s m p k w) where
     -- a slot lies in it
-    pub slot-lies : (slot : Slot) → IsOutwardSlot s.classes (raws_in test s p.graph) s.rows slot → (base ≤ slot.at.0) × (slot.at.0 < base + bytes)
+    pub slot-lies : (slot : Slot) → IsOutwardSlot s.classes (raws_in w.has s p.graph) s.rows slot → (w.base ≤ slot.at.0) × (slot.at.0 < w.base + w.bytes)
     slot-lies slot is =
-        let it = in-space s m p k test is.object is.has in
+        let it = in-space s m p k w.has is.object is.has in
         let o : Object = it.object in
-        let spot = w.spots o it.is_in it.here in
-        let within : IsIn is.place (places_of g.classes o.shape) =
-        subst (λ (r : Raw). IsIn is.place (places_of g.classes r.shape)) it.raw_is
-        (subst (λ cs. IsIn is.place (places_of cs ((raws_in test s p.graph).raw is.object).shape)) k.heap.stands.classes is.is_in) in
+        let spot = is_window.spots o it.is_in it.here in
+        let within = place-of s m p k ((raws_in w.has s p.graph).raw is.object) o is.place it.raw_is is.is_in in
         let lies = laid-in _ _ (places_of g.classes o.shape) is.place (places-laid g.classes o.shape) within in
         let size = size-bounds g.classes o.shape in
         let end : is.place.offset < size_in g.classes o.shape = omega (arith, lies.2, size.1, bytes-low is.place.kind) in
         (omega (arith, is.at_is, it.at_is, spot.low), omega (arith, is.at_is, it.at_is, spot.high, end))
 
     -- its card is one of the graph's
-    pub slot-card : (P : Card → Type 0) (slot : Slot) → IsOutwardSlot s.classes (raws_in test s p.graph) s.rows slot → AllByRecursion P (outward_cards p.graph)
-        → (n : ℕ) × (card_of base + n ≡ card_of slot.at.0) × P (make n)
+    pub slot-card : (P : Card → Type 0) (slot : Slot) → IsOutwardSlot s.classes (raws_in w.has s p.graph) s.rows slot → AllByRecursion P (outward_cards p.graph)
+        → (n : ℕ) × (card_of w.base + n ≡ card_of slot.at.0) × P (w.card n)
     slot-card P slot is all =
-        let it = stored-out test slot is in
+        let it = stored-out w.has slot is in
         let o : Object = it.object in
-        let spot = w.spots o it.is_in it.here in
+        let spot = is_window.spots o it.is_in it.here in
         let here = subst (AllByRecursion P) (spot.cards it.stored.at.offset)
         (cards_one P g g.objects o it.stored all it.is_in it.there (ap (λ b. is_immune b o.place) sealed ∙ spot.immune) it.out) in
-        ((table o.number + it.stored.at.offset - base) / card_bytes, omega (arith, it.at_is, spot.low, w.aligned), here.0)
+        ((table o.number + it.stored.at.offset - w.base) / card_bytes, omega (arith, it.at_is, spot.low, is_window.aligned), here.0)
 
     -- and one of the graph's is that of a slot
-    pub card-slots : (P : Card → Type 0) → ((slot : Slot) (n : ℕ) → IsOutwardSlot s.classes (raws_in test s p.graph) s.rows slot → card_of base + n ≡ card_of slot.at.0 → P (make n))
-        → (o : Object) (st : Stored) → IsIn o p.graph.objects → test o.place ≡ true → IsIn st o.slots → is_outward p.graph st.value ≡ true → AllByRecursion P (cards_in o.place st.at.offset)
+    pub card-slots : (P : Card → Type 0) → ((slot : Slot) (n : ℕ) → IsOutwardSlot s.classes (raws_in w.has s p.graph) s.rows slot → card_of w.base + n ≡ card_of slot.at.0 → P (w.card n))
+        → (o : Object) (st : Stored) → IsIn o p.graph.objects → w.has o.place ≡ true → IsIn st o.slots → is_outward p.graph st.value ≡ true → AllByRecursion P (cards_in o.place st.at.offset)
     card-slots P each o st there here stored out =
-        let it = slot-out test o st there here stored out in
-        let spot = w.spots o there here in
+        let it = slot-out w.has o st there here stored out in
+        let spot = is_window.spots o there here in
         subst (AllByRecursion P) (sym (spot.cards st.at.offset))
-        (each it.0 ((table o.number + st.at.offset - base) / card_bytes) it.1 (omega (arith, it.2, spot.low, w.aligned)), tt)
+        (each it.0 ((table o.number + st.at.offset - w.base) / card_bytes) it.1 (omega (arith, it.2, spot.low, is_window.aligned)), tt)

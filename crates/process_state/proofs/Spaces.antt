@@ -1,5 +1,5 @@
 -- The objects of the image and those of the zygote window, as raw ones, and what their references lead to.
-use Rattle.std.proofs.Common.{◌≡◌, ◌∙◌, ◌⊎◌, ℕ, ◌+◌, ◌-◌, ◌/◌, ◌%◌, ◌<◌, ◌≤◌, Bool, true, false, List, [], ◌∷◌, Some, filter, nat_eq, refl, sym, ap, subst, inl, inr, arith, true≢false, pos}
+use Rattle.std.proofs.Common.{◌≡◌, ◌∙◌, ◌⊎◌, ℕ, ◌+◌, ◌-◌, ◌/◌, ◌%◌, ◌≤◌, Bool, true, List, [], ◌∷◌, Some, filter, nat_eq, refl, sym, ap, subst, inl, inr, arith, true≢false}
 use Rattle.std.specs.Prelude.{is_some, ◌&&◌}
 use Rattle.std.specs.List.{list_any}
 use Rattle.std.proofs.lemmas.Bool.{eq-eqb, eqb-true}
@@ -29,7 +29,7 @@ use Rattle.heap_world.specs.Pages.{page_in}
 use Rattle.heap_world.specs.Part.{Part}
 use Rattle.world_laws.specs.Named.{has_slot}
 use Rattle.object_view.specs.Seen.{seen_value, value_in}
-use Rattle.raw_objects.specs.Raws.{HoldsRaws}
+use Rattle.raw_objects.specs.Raws.{HoldsRaws, Raw}
 use Rattle.address_table.specs.Computed.{Homes}
 use Rattle.address_table.proofs.Fitting.{fits}
 use Rattle.large_objects.specs.declared.rows.LargeRow.{LargeRow}
@@ -55,6 +55,19 @@ pub record OnSpot (g : Graph) (o : Object) (at : Place) (address base bytes : �
   pub immune : is_immune true at ≡ true
   pub cards : (offset : ℕ) → cards_in at offset ≡ make ((address + offset - base) / card_bytes) ∷ []
   pub pages : (table : ℕ → ℕ) (offset : ℕ) → (page : PageName) × (page_in o at offset ≡ Some page) × (page_named table page ≡ page_of (address + offset))
+
+-- a window of spots: which places lie in it, its cards, where it begins, and how long it is
+pub record SpotWindow : Type 0 where
+  pub has : Place → Bool
+  pub card : ℕ → Card
+  pub base : ℕ
+  pub bytes : ℕ
+
+abbrev pub the_image : SpotWindow
+the_image = record { has = is_in_image; card = card.Image; base = image_base; bytes = image_length }
+
+abbrev pub the_zygote : SpotWindow
+the_zygote = record { has = is_in_zygote; card = card.Zygote; base = zygote_base; bytes = zygote_length }
 
 same-eq : (a b : ℕ) → nat_eq a b ≡ nat_eq b a
 same-eq a b = same-bool (nat_eq a b) (nat_eq b a) (λ e. eq-eqb b a (sym (eqb-true a b e))) (λ e. eq-eqb a b (sym (eqb-true b a e)))
@@ -172,18 +185,23 @@ module _ (s : State) (m : Memory) (p : Part) (k : StandsIn s m p) where
       by place.Large address h e = absurd (true≢false (sym e))
       by place.Promoted address h e = absurd (true≢false (sym e))
 
-  -- objects that pass a test stand in such a window
-  pub record IsWindow (test : Place → Bool) (make : ℕ → Card) (base bytes : ℕ) : Type 0 where
-    pub spots : (o : Object) → IsIn o p.graph.objects → test o.place ≡ true → OnSpot p.graph o o.place (addresses_in s p.graph o.number) base bytes make
-    pub aligned : base % card_bytes ≡ 0
+  -- its objects stand on spots of it, and it begins with a card
+  pub record IsWindow (w : SpotWindow) : Type 0 where
+    pub spots : (o : Object) → IsIn o p.graph.objects → w.has o.place ≡ true → OnSpot p.graph o o.place (addresses_in s p.graph o.number) w.base w.bytes w.card
+    pub aligned : w.base % card_bytes ≡ 0
 
-  pub image-window : IsWindow is_in_image card.Image image_base image_length
+  pub image-window : IsWindow the_image
   image-window = record { spots = image-spot; aligned = refl }
 
-  pub zygote-window : IsWindow is_in_zygote card.Zygote zygote_base zygote_length
+  pub zygote-window : IsWindow the_zygote
   zygote-window = record { spots = zygote-spot; aligned = refl }
 
   -- REFERENCES
+
+  -- a place of a raw object is one of its object
+  pub place-of : (r : Raw) (o : Object) (at : FieldAt) → r ≡ raw_under (addresses_in s p.graph) o → IsIn at (places_of s.classes r.shape) → IsIn at (places_of p.graph.classes o.shape)
+  place-of r o at same is =
+      subst (λ (x : Raw). IsIn at (places_of p.graph.classes x.shape)) same (subst (λ cs. IsIn at (places_of cs r.shape)) k.heap.stands.classes is)
 
   -- a reference holds null, or an object of the graph
   pub reference : (o : Object) (at : FieldAt) → IsIn o p.graph.objects → IsIn at (places_of p.graph.classes o.shape) → at.kind ≡ Ref
@@ -202,18 +220,18 @@ module _ (s : State) (m : Memory) (p : Part) (k : StandsIn s m p) where
       → IsKnownTarget s.rows (value_in (addresses_in s p.graph) o at)
   known-target o at there within kind = elim (reference o at there within kind) [
     | inl null ↦ record {
-        address = 0;
-        is = ap (seen_value table) null;
-        below = omega arith;
-        large = λ inside. absurd (true≢false (sym inside));
-      }
+      address = 0;
+      is = ap (seen_value table) null;
+      below = omega arith;
+      large = λ inside. absurd (true≢false (sym inside));
+    }
     | inr it ↦ record {
-        address = table it.0.number;
-        is = ap (seen_value table) it.2;
-        below = (fits homes g k.heap.formed k.heap.house).below it.0.number;
-        large = λ inside.
-            let slot : has_slot it.0.place ≡ true = sym (in-large-is homes g k.heap.formed k.heap.house it.0 it.1) ∙ inside in
-            let row = row-at homes g k.heap.formed k.heap.house it.0 it.1 slot in
-            ap (λ (rs : List LargeRow). is_some (row_at rs (table it.0.number))) k.heap.stands.rows ∙ ap is_some row.1;
-      }
+      address = table it.0.number;
+      is = ap (seen_value table) it.2;
+      below = (fits homes g k.heap.formed k.heap.house).below it.0.number;
+      large = λ inside.
+          let slot : has_slot it.0.place ≡ true = sym (in-large-is homes g k.heap.formed k.heap.house it.0 it.1) ∙ inside in
+          let row = row-at homes g k.heap.formed k.heap.house it.0 it.1 slot in
+          ap (λ (rs : List LargeRow). is_some (row_at rs (table it.0.number))) k.heap.stands.rows ∙ ap is_some row.1;
+    }
   ]

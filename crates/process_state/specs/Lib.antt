@@ -4,4 +4,3 @@ pub mod Stands
 pub mod Acts
 pub mod Same
 pub mod Slots
-pub mod Collections
