@@ -8,6 +8,7 @@ use Rattle.heap_world.specs.declared.reply.Reply.{Reply}
 use Rattle.heap_world.specs.Effect.{tells, Effect}
 use Rattle.heap_world.specs.Pages.{is_touched}
 use Rattle.heap_world.specs.Part.{Part}
+use Rattle.heap_world.proofs.Standing.{in-left}
 use Rattle.world_laws.specs.Effects.{KeepsNames}
 use Rattle.world_laws.specs.Named.{is_named}
 use Rattle.process_state.specs.Acts.{page_in, Acts, Step}
@@ -28,7 +29,7 @@ answers s m p r reads stands sound = record {
 named-before : (p : Part) (f : Effect) (a : PageName) → KeepsNames p f → is_named f.part.graph a ≡ true → is_touched (f.made ++ f.first) a ≡ false → is_named p.graph a ≡ true
 named-before p f a keeps named quiet = elim (keeps.named a named) [
   | inl before ↦ before
-  | inr made ↦ absurd (true≢false (sym (touched-more f.made f.first a made) ∙ quiet))
+  | inr made ↦ absurd (true≢false (sym (in-left f.made f.first a made) ∙ quiet))
 ]
 
 pub follow : (c d : Step) (p : Part) (e f : Effect) → Acts c p e → Acts d e.part f → d.old ≡ c.new → d.was ≡ c.now → e.made ≡ [] → e.first ≡ [] → KeepsNames e.part f
