@@ -1,5 +1,5 @@
 -- Where roots stand: places in the order of first writing, of which some are holes.
-use Rattle.std.specs.Prelude.{◌≡◌, ◌+◌, ◌≤◌, ◌<◌, ⊤, ℕ, Bool, true, false, List, [], ◌∷◌, ◌||◌, Option, None, Some, length, nat_eq, vec_capacity}
+use Rattle.std.specs.Prelude.{◌≡◌, ◌+◌, ◌≤◌, ◌<◌, ⊤, ℕ, suc, Bool, true, false, List, [], ◌∷◌, ◌||◌, Option, None, Some, length, nat_eq, vec_capacity}
 use Rattle.std.specs.Option.{option_map}
 use Rattle.indexmap.specs.IndexMap.{get, spare, index_map_len}
 use Rattle.page_tables.specs.declared.address.Addr.{Addr}
@@ -29,7 +29,7 @@ named name (Some n) = same_name n name
 
 abbrev pub first_if : Bool → Option ℕ → Option ℕ
 first_if true o = Some 0
-first_if false o = option_map (λ k. k + 1) o
+first_if false o = option_map suc o
 
 -- the first place that has the name
 abbrev pub place_of : List (Option (List ℕ)) → List ℕ → Option ℕ

@@ -48,8 +48,7 @@ impl Roots {
     pub fn find(&self, name: &Name) -> Option<Addr>
         ensures { result ≡ held_at self.now.roots name.now }
     {
-        let place = self.table.place(name)?;
-        Some(self.table.addresses[place])
+        self.table.find(name)
     }
 
     /// The root of an index, counted from 0, in their order. It takes longer after roots were removed, until the

@@ -3,7 +3,7 @@ ghost use Rattle.std.specs.Prelude.{◌≡◌, ◌+◌, ◌∷◌, ◌++◌, ◌
 ghost use Rattle.std.specs.List.{filter};
 ghost use Rattle.indexmap.specs.IndexMap.{get, spare, index_map_len};
 ghost use Rattle.class_layout.specs.Names.{same_name};
-ghost use Rattle.root_list.specs.Roots.{held_at, is_root, with_held, without_root};
+ghost use Rattle.root_list.specs.Roots.{held_at, is_root, with_root, without_root};
 ghost use Rattle.root_list.specs.Places.{roots_of, kept_of, place_of, roots_in, seen, AreApart, HasRoom, IsTable};
 
 use crate::root::RootAt;
@@ -40,9 +40,19 @@ impl Table {
     /// The place of a name.
     pub fn place(&self, name: &Name) -> Option<usize>
         requires { IsTable self.now }
-        ensures { result ≡ place_of self.now.names.items name.now }
+        ensures place { result ≡ place_of self.now.names.items name.now }
+        ensures root { is_root (roots_in self.now) name.now ≡ is_some result }
     {
         self.index.get(name).copied()
+    }
+
+    /// What the root of a name holds.
+    pub fn find(&self, name: &Name) -> Option<Addr>
+        requires { IsTable self.now }
+        ensures { result ≡ held_at (roots_in self.now) name.now }
+    {
+        let place = self.place(name)?;
+        Some(self.addresses[place])
     }
 
     /// Makes room for a root more.
@@ -66,7 +76,7 @@ impl Table {
         requires table { IsTable self.old }
         requires ready { self.old.ready ≡ true }
         requires fresh { place_of self.old.names.items name ≡ None }
-        ensures roots { roots_in self.new ≡ roots_in self.old ++ record { name = name; holds = holds } ∷ [] }
+        ensures roots { roots_in self.new ≡ with_root (roots_in self.old) name holds }
         ensures table { IsTable self.new }
     {
         self.index.insert(name, self.names.len()).unwrap();
@@ -79,7 +89,7 @@ impl Table {
     pub fn put(&mut self, name: &Name, place: usize, holds: Addr)
         requires table { IsTable self.old }
         requires there { place_of self.old.names.items name.now ≡ Some place }
-        ensures roots { roots_in self.new ≡ with_held (roots_in self.old) name.now holds }
+        ensures roots { roots_in self.new ≡ with_root (roots_in self.old) name.now holds }
         ensures ready { self.new.ready ≡ self.old.ready }
         ensures table { IsTable self.new }
     {
@@ -153,8 +163,8 @@ fn renumber(index: &mut IndexMap<Name, usize>, names: &[Option<Name>])
     ensures room { index_map_len index.old + spare index.old ≤ index_map_len index.new + spare index.new }
 {
     index.clear();
-    for (k, name) in names.iter().enumerate() {
-        if let Some(name) = name {
+    for k in 0..names.len() {
+        if let Some(name) = &names[k] {
             index.insert(*name, k).unwrap();
         }
     }

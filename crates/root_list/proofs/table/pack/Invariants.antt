@@ -1,0 +1,11 @@
+use Rattle.std.proofs.Common.{◌≡◌, ◌≤◌, ◌++◌, length, take, drop}
+use Rattle.root_list.specs.Places.{kept_of}
+use Rattle.root_list.proofs.table.pack.Given as goal
+
+-- the addresses of roots before this place stand in front
+abbrev pub invariant-loop-k : goal.invariant-loop-k
+invariant-loop-k l = record {
+  few : l.kept ≤ l.k;
+  kept : take l.kept l.addresses.now ++ kept_of (drop l.k l.fn.names.now) (drop l.k l.addresses.now) ≡ kept_of l.fn.names.now l.fn.addresses.now;
+  long : length l.addresses.now ≡ length l.fn.addresses.now;
+}
