@@ -84,19 +84,19 @@ root-some (Some n ∷ ns) (at ∷ ats) name k l h =
       | inr q ↦ ap (λ b. b || is_root (roots_of ns ats) name) q.1 ∙ root-some ns ats name q.0 (omega (arith, l)) q.3
     ]
 
-pub held-some : (ns : Places) (ats : List Addr) (name : List ℕ) (k : ℕ) (a : Addr) → place_of ns name ≡ Some k → slice_get ats k ≡ Some a → held_at (roots_of ns ats) name ≡ Some a
-held-some [] ats name k a h g = absurd (none-some k h)
-held-some (n ∷ ns) [] name k a h g = absurd (cc)
-held-some (None ∷ ns) (at ∷ ats) name k a h g =
+pub held-some : (ns : Places) (ats : List Addr) (name : List ℕ) (k : ℕ) → length ns ≡ length ats → place_of ns name ≡ Some k → slice_get ats k ≡ held_at (roots_of ns ats) name
+held-some [] ats name k l h = absurd (none-some k h)
+held-some (n ∷ ns) [] name k l h = absurd (omega (arith, l))
+held-some (None ∷ ns) (at ∷ ats) name k l h =
     elim (some-head name None ns k h) [
       | inl q ↦ absurd (true≢false (sym q.0))
-      | inr q ↦ held-some ns ats name q.0 a q.3 (ap (slice_get (at ∷ ats)) (sym q.2) ∙ g)
+      | inr q ↦ ap (slice_get (at ∷ ats)) q.2 ∙ held-some ns ats name q.0 (omega (arith, l)) q.3
     ]
-held-some (Some n ∷ ns) (at ∷ ats) name k a h g =
+held-some (Some n ∷ ns) (at ∷ ats) name k l h =
     let of : Bool → Option Addr = λ b. holds_in (cond b (Some (root n at)) (find (λ (r : RootAt). same_name r.name name) (roots_of ns ats))) in
     elim (some-head name (Some n) ns k h) [
-      | inl q ↦ ap of q.0 ∙ (ap (slice_get (at ∷ ats)) (sym q.1) ∙ g)
-      | inr q ↦ ap of q.1 ∙ held-some ns ats name q.0 a q.3 (ap (slice_get (at ∷ ats)) (sym q.2) ∙ g)
+      | inl q ↦ ap (slice_get (at ∷ ats)) q.1 ∙ sym (ap of q.0)
+      | inr q ↦ ap (slice_get (at ∷ ats)) q.2 ∙ held-some ns ats name q.0 (omega (arith, l)) q.3 ∙ sym (ap of q.1)
     ]
 
 -- A ROOT HOLDS SOMETHING ELSE
@@ -353,3 +353,8 @@ length-put (Some n ∷ ns) (at ∷ ats) (suc k) a = ap suc (length-put ns ats k 
 pub length-push : (ns : Places) (ats : List Addr) (n : List ℕ) (a : Addr) → length ns ≡ length ats
     → length (roots_of (ns ++ Some n ∷ []) (ats ++ a ∷ [])) ≡ length (roots_of ns ats) + 1
 length-push ns ats n a l = ap length (roots-push ns ats n a l) ∙ length-append (roots_of ns ats) (record { name = n; holds = a } ∷ [])
+
+pub filter-fewer : (ns : Places) → length (filter is_some ns) ≤ length ns
+filter-fewer [] = omega arith
+filter-fewer (None ∷ ns) = omega (arith, filter-fewer ns)
+filter-fewer (Some n ∷ ns) = omega (arith, filter-fewer ns)

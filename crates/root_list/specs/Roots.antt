@@ -1,5 +1,5 @@
 -- The roots of a process: names with the addresses of what they hold.
-use Rattle.std.specs.Prelude.{ℕ, Bool, true, false, not, List, [], ◌∷◌, Option, None, Some, filter, map}
+use Rattle.std.specs.Prelude.{ℕ, Bool, true, false, not, List, [], ◌∷◌, ◌++◌, Option, None, Some, filter, map}
 use Rattle.std.specs.List.{find, list_any}
 use Rattle.page_tables.specs.declared.address.Addr.{Addr}
 use Rattle.class_layout.specs.Names.{same_name}

@@ -1,5 +1,5 @@
 //! The places of the roots, with holes where roots were removed, and an index from names to places.
-ghost use Rattle.std.specs.Prelude.{◌≡◌, ◌+◌, ◌∷◌, ◌++◌, ◌<◌, ◌≤◌, [], ℕ, List, true, false, None, Some, length, take, IfOk, IsOk, OnOk, OnErr, is_some, slice_get, slice_set, vec_len, vec_capacity};
+ghost use Rattle.std.specs.Prelude.{◌≡◌, ◌+◌, ◌∷◌, ◌++◌, ◌<◌, ◌≤◌, [], ℕ, List, true, false, None, Some, length, take, IfOk, IsOk, OnOk, OnErr, is_some, cond, slice_get, slice_set, vec_len, vec_capacity};
 ghost use Rattle.std.specs.List.{filter};
 ghost use Rattle.indexmap.specs.IndexMap.{get, spare, index_map_len};
 ghost use Rattle.class_layout.specs.Names.{same_name};
@@ -51,8 +51,10 @@ impl Table {
         requires { IsTable self.now }
         ensures { result ≡ held_at (roots_in self.now) name.now }
     {
-        let place = self.place(name)?;
-        Some(self.addresses[place])
+        match self.place(name) {
+            Some(place) => self.addresses.get(place).copied(),
+            None => None,
+        }
     }
 
     /// Makes room for a root more.
@@ -79,7 +81,7 @@ impl Table {
         ensures roots { roots_in self.new ≡ with_root (roots_in self.old) name holds }
         ensures table { IsTable self.new }
     {
-        self.index.insert(name, self.names.len()).unwrap();
+        insert_new(&mut self.index, name, self.names.len());
         self.names.push_reserved(Some(name));
         self.addresses.push_reserved(holds);
         self.ready = false;
@@ -129,6 +131,17 @@ impl Table {
     }
 }
 
+// Gives a new name its place. There is room for it.
+fn insert_new(index: &mut IndexMap<Name, usize>, name: Name, place: usize)
+    requires room { 1 ≤ spare index.old }
+    requires fresh { get same_name index.old name ≡ None }
+    ensures found { (q : List ℕ) → get same_name index.new q ≡ cond (same_name name q) (Some place) (get same_name index.old q) }
+    ensures count { index_map_len index.new ≡ index_map_len index.old + 1 }
+    ensures room { spare index.old ≤ spare index.new + 1 }
+{
+    index.insert(name, place).unwrap();
+}
+
 // Moves the addresses of the roots to the front, and tells how many there are.
 fn pack(names: &[Option<Name>], addresses: &mut [Addr]) -> usize
     requires { length names.now ≡ length addresses.old }
@@ -165,7 +178,7 @@ fn renumber(index: &mut IndexMap<Name, usize>, names: &[Option<Name>])
     index.clear();
     for k in 0..names.len() {
         if let Some(name) = &names[k] {
-            index.insert(*name, k).unwrap();
+            insert_new(index, *name, k);
         }
     }
 }

@@ -6,6 +6,6 @@ use Rattle.root_list.proofs.table.pack.Given as goal
 abbrev pub invariant-loop-k : goal.invariant-loop-k
 invariant-loop-k l = record {
   few : l.kept ≤ l.k;
-  kept : take l.kept l.addresses.now ++ kept_of (drop l.k l.fn.names.now) (drop l.k l.addresses.now) ≡ kept_of l.fn.names.now l.fn.addresses.now;
-  long : length l.addresses.now ≡ length l.fn.addresses.now;
+  kept : take l.kept l.addresses ++ kept_of (drop l.k l.fn.names) (drop l.k l.addresses) ≡ kept_of l.fn.names l.fn.addresses;
+  long : length l.addresses ≡ length l.fn.addresses;
 }

@@ -7,7 +7,7 @@ use Rattle.root_list.proofs.table.renumber.Given as goal
 -- the names before this place have theirs
 abbrev pub invariant-loop-k : goal.invariant-loop-k
 invariant-loop-k l = record {
-  found : (name : List ℕ) → get same_name l.index name ≡ place_of (take l.k l.fn.names.now) name;
+  found : (name : List ℕ) → get same_name l.index name ≡ place_of (take l.k l.fn.names) name;
   count : index_map_len l.index ≡ l.k;
   room : index_map_len l.fn.index + spare l.fn.index ≤ index_map_len l.index + spare l.index;
 }

@@ -18,7 +18,8 @@ returns-in_default-clause-roots c =
 pub index_mut-requires : goal.index_mut-requires
 index_mut-requires c =
     let at : place_of c.args.self.now.names.items c.args.name.now ≡ Some c.in-Some.place = sym (c.requires.found c.args.name.now) ∙ sym c.in-Some.ensures.value in
-    place-within c.args.self.now.names.items c.args.name.now c.in-Some.place at
+    let less : c.in-Some.place < length c.args.self.now.names.items = place-within c.args.self.now.names.items c.args.name.now c.in-Some.place at in
+    omega (arith, less)
 
 pub returns-clause-told : goal.returns-clause-told
 returns-clause-told c =
