@@ -28,6 +28,9 @@ impl Model for Roots {
 }
 
 impl Roots {
+    ghost use Rattle.std.specs.Borrow.{sem};
+    ghost use Rattle.root_list.specs.Lending.{LendsHeld};
+
     /// No root. It takes no memory.
     pub fn new(alloc: Global) -> Roots
         ensures { result.roots ≡ [] }
@@ -98,5 +101,22 @@ impl Roots {
             self.table.settle();
         }
         found
+    }
+
+    /// The addresses that the roots hold, in their order. What is written to them the roots hold. It takes no memory.
+    pub fn addresses(&mut self) -> &mut [Addr]
+        ensures* written { sem 𝓛 (LendsHeld self.entry result) }
+        ensures held { result.now ≡ held_by_all self.old.roots }
+    {
+        self.table.settle();
+        self.table.addresses.as_mut_slice()
+    }
+
+    /// Equal roots.
+    pub fn copied(&self) -> Result<Roots, AllocError>
+        ensures { IfOk result (λ copy. copy.roots ≡ self.now.roots) }
+    {
+        let table = self.table.copied()?;
+        Ok(Roots { table })
     }
 }

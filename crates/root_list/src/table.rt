@@ -57,6 +57,26 @@ impl Table {
         }
     }
 
+    /// An equal table.
+    pub fn copied(&self) -> Result<Table, AllocError>
+        requires { IsTable self.now }
+        ensures roots { IfOk result (λ copy. roots_in copy ≡ roots_in self.now) }
+        ensures table { IfOk result (λ copy. IsTable copy) }
+    {
+        let alloc = *self.names.allocator();
+        let mut names = Vec::new(alloc);
+        names.extend_from_slice(&self.names)?;
+        let mut addresses = Vec::new(alloc);
+        addresses.extend_from_slice(&self.addresses)?;
+        let index = self.index.clone()?;
+        Ok(Table {
+            index,
+            names,
+            addresses,
+            ready: false,
+        })
+    }
+
     /// Makes room for a root more.
     pub fn reserve(&mut self) -> Result<(), AllocError>
         requires { IsTable self.old }
@@ -124,8 +144,7 @@ impl Table {
         if self.index.len() == self.names.len() {
             return;
         }
-        let kept = pack(&self.names, &mut self.addresses);
-        self.addresses.truncate(kept);
+        pack(&self.names, &mut self.addresses);
         keep_names(&mut self.names);
         renumber(&mut self.index, &self.names);
     }
@@ -142,11 +161,11 @@ fn insert_new(index: &mut IndexMap<Name, usize>, name: Name, place: usize)
     index.insert(name, place).unwrap();
 }
 
-// Moves the addresses of the roots to the front, and tells how many there are.
-fn pack(names: &[Option<Name>], addresses: &mut [Addr]) -> usize
-    requires { length names.now ≡ length addresses.old }
-    ensures kept { take result addresses.new ≡ kept_of names.now addresses.old }
-    ensures long { length addresses.new ≡ length addresses.old }
+// Keeps the addresses of the roots.
+fn pack(names: &[Option<Name>], addresses: &mut Vec<Addr>)
+    requires { length names.now ≡ length addresses.old.items }
+    ensures kept { addresses.new.items ≡ kept_of names.now addresses.old.items }
+    ensures capacity { vec_capacity addresses.new ≡ vec_capacity addresses.old }
 {
     let mut kept = 0;
     for k in 0..names.len() {
@@ -155,7 +174,7 @@ fn pack(names: &[Option<Name>], addresses: &mut [Addr]) -> usize
             kept += 1;
         }
     }
-    kept
+    addresses.truncate(kept);
 }
 
 // Removes the holes.

@@ -25,12 +25,14 @@ returns-clause-table c =
         ap (λ ps. length (roots_of ps c.push_reserved-2.new.self.items)) i1
         ∙ ap (λ as'. length (roots_of (ns ++ Some c.args.name ∷ []) as')) i2
         ∙ length-push ns ats c.args.name c.args.holds t.long in
+    let count : c.len.result ≡ length ns = omega (arith, c.len.ensures) in
     record {
       long = omega (arith, e1, e2, t.long);
       apart = subst AreApart (sym i1) (apart-push ns c.args.name c.requires.fresh t.apart);
       found = λ q.
           c.insert_new.ensures.found q
           ∙ ap (λ o. cond (same_name c.args.name q) (Some c.len.result) o) (t.found q)
+          ∙ ap (λ k. cond (same_name c.args.name q) (Some k) (place_of ns q)) count
           ∙ place-push ns c.args.name q c.requires.fresh
           ∙ ap (λ ps. place_of ps q) (sym i1);
       count = omega (arith, c.insert_new.ensures.count, t.count, roots);

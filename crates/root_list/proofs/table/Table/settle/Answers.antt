@@ -25,9 +25,9 @@ pub returns-clause-roots : goal.returns-clause-roots
 returns-clause-roots c =
     let ns = c.args.self.now.names.items in
     let ats = c.args.self.now.addresses.items in
-    let packed : c.truncate.new.self.items ≡ kept_of ns ats =
-        c.truncate.ensures.items ∙ c.pack-kept.ensures.kept ∙ ap (λ ps. kept_of ps c.deref_mut.result.now) c.deref.ensures.value ∙ ap (kept_of ns) c.deref_mut.ensures.value in
-    ap (λ ps. roots_of ps c.truncate.new.self.items) c.keep_names.ensures.items ∙ ap (roots_of (filter is_some ns)) packed ∙ roots-kept ns ats
+    let packed : c.pack.new.addresses.items ≡ kept_of ns ats =
+        c.pack.ensures.kept ∙ ap (λ ps. kept_of ps ats) c.deref.ensures.value in
+    ap (λ ps. roots_of ps c.pack.new.addresses.items) c.keep_names.ensures.items ∙ ap (roots_of (filter is_some ns)) packed ∙ roots-kept ns ats
 
 pub returns-clause-table : goal.returns-clause-table
 returns-clause-table c =
@@ -36,12 +36,12 @@ returns-clause-table c =
     let ats = c.args.self.now.addresses.items in
     let items = c.keep_names.ensures.items in
     let e = c.deref-2.ensures.value ∙ items in
-    let packed : c.truncate.new.self.items ≡ kept_of ns ats =
-        c.truncate.ensures.items ∙ c.pack-kept.ensures.kept ∙ ap (λ ps. kept_of ps c.deref_mut.result.now) c.deref.ensures.value ∙ ap (kept_of ns) c.deref_mut.ensures.value in
-    let roots : roots_of c.keep_names.new.names.items c.truncate.new.self.items ≡ roots_of ns ats =
-        ap (λ ps. roots_of ps c.truncate.new.self.items) items ∙ ap (roots_of (filter is_some ns)) packed ∙ roots-kept ns ats in
+    let packed : c.pack.new.addresses.items ≡ kept_of ns ats =
+        c.pack.ensures.kept ∙ ap (λ ps. kept_of ps ats) c.deref.ensures.value in
+    let roots : roots_of c.keep_names.new.names.items c.pack.new.addresses.items ≡ roots_of ns ats =
+        ap (λ ps. roots_of ps c.pack.new.addresses.items) items ∙ ap (roots_of (filter is_some ns)) packed ∙ roots-kept ns ats in
     let few = filter-fewer ns in
-    let long : length c.keep_names.new.names.items ≡ length c.truncate.new.self.items = ap length items ∙ length-kept ns ats t.long ∙ sym (ap length packed) in
+    let long : length c.keep_names.new.names.items ≡ length c.pack.new.addresses.items = ap length items ∙ length-kept ns ats t.long ∙ sym (ap length packed) in
     record {
       long = long;
       apart = subst AreApart (sym items) (apart-filter ns t.apart);
@@ -50,6 +50,6 @@ returns-clause-table c =
       room = λ r. record {
         index = omega (arith, (t.room r).index, c.renumber.ensures.room, c.renumber.ensures.count, ap length e, length-filter ns ats t.long, t.count);
         names = omega (arith, (t.room r).names, c.keep_names.ensures.capacity, ap length items, few);
-        addresses = omega (arith, (t.room r).addresses, c.truncate.ensures.capacity, long, ap length items, few, t.long);
+        addresses = omega (arith, (t.room r).addresses, c.pack.ensures.capacity, long, ap length items, few, t.long);
       };
     }
