@@ -1,5 +1,5 @@
 -- Places of names, and the roots that stand at them.
-use Rattle.std.proofs.Common.{◌≡◌, ℕ, suc, zero, ◌+◌, ◌<◌, ◌≤◌, Bool, true, false, cond, not, ◌||◌, ◌⊎◌, true≢false, List, [], ◌∷◌, ◌++◌, Option, None, Some, length, filter, is_some, slice_get, slice_set, map, refl, sym, ap, subst, ◌∙◌, inl, inr, arith, length-append}
+use Rattle.std.proofs.Common.{◌≡◌, ℕ, suc, zero, ◌+◌, ◌<◌, ◌≤◌, Bool, true, false, cond, not, ◌||◌, ◌⊎◌, true≢false, List, [], ◌∷◌, ◌++◌, Option, None, Some, length, filter, is_some, slice_set, get_or, take, drop, map, refl, sym, ap, subst, ◌∙◌, inl, inr, arith, length-append}
 use Rattle.std.specs.List.{list_any, find}
 use Rattle.std.specs.Option.{option_map}
 use Rattle.std.proofs.lemmas.Bool.{cases_Bool}
@@ -9,7 +9,7 @@ use Rattle.class_layout.specs.Names.{same_name}
 use Rattle.class_layout.proofs.Lists.{option_map-none}
 use Rattle.class_layout.proofs.Uniqueness.{names-same, same_name-refl, same_name-symm}
 use Rattle.root_list.specs.declared.root.RootAt.{RootAt}
-use Rattle.root_list.specs.Roots.{is_root, holds_in, held_at, hold_if, with_held, with_root, with_root_if, without_root}
+use Rattle.root_list.specs.Roots.{is_root, held_by_all, holding, holds_in, held_at, hold_if, with_held, with_root, with_root_if, without_root}
 use Rattle.root_list.specs.Places.{roots_of, kept_of, named, first_if, place_of, IsFresh, AreApart}
 
 abbrev Places : Type 0
@@ -84,19 +84,19 @@ root-some (Some n ∷ ns) (at ∷ ats) name k l h =
       | inr q ↦ ap (λ b. b || is_root (roots_of ns ats) name) q.1 ∙ root-some ns ats name q.0 (omega (arith, l)) q.3
     ]
 
-pub held-some : (ns : Places) (ats : List Addr) (name : List ℕ) (k : ℕ) → length ns ≡ length ats → place_of ns name ≡ Some k → slice_get ats k ≡ held_at (roots_of ns ats) name
-held-some [] ats name k l h = absurd (none-some k h)
-held-some (n ∷ ns) [] name k l h = absurd (omega (arith, l))
-held-some (None ∷ ns) (at ∷ ats) name k l h =
+pub held-index : (ns : Places) (ats : List Addr) (name : List ℕ) (k : ℕ) (d : Addr) → length ns ≡ length ats → place_of ns name ≡ Some k → Some (get_or ats k d) ≡ held_at (roots_of ns ats) name
+held-index [] ats name k d l h = absurd (none-some k h)
+held-index (n ∷ ns) [] name k d l h = absurd (omega (arith, l))
+held-index (None ∷ ns) (at ∷ ats) name k d l h =
     elim (some-head name None ns k h) [
       | inl q ↦ absurd (true≢false (sym q.0))
-      | inr q ↦ ap (slice_get (at ∷ ats)) q.2 ∙ held-some ns ats name q.0 (omega (arith, l)) q.3
+      | inr q ↦ ap (λ i. Some (get_or (at ∷ ats) i d)) q.2 ∙ held-index ns ats name q.0 d (omega (arith, l)) q.3
     ]
-held-some (Some n ∷ ns) (at ∷ ats) name k l h =
+held-index (Some n ∷ ns) (at ∷ ats) name k d l h =
     let of : Bool → Option Addr = λ b. holds_in (cond b (Some (root n at)) (find (λ (r : RootAt). same_name r.name name) (roots_of ns ats))) in
     elim (some-head name (Some n) ns k h) [
-      | inl q ↦ ap (slice_get (at ∷ ats)) q.1 ∙ sym (ap of q.0)
-      | inr q ↦ ap (slice_get (at ∷ ats)) q.2 ∙ held-some ns ats name q.0 (omega (arith, l)) q.3 ∙ sym (ap of q.1)
+      | inl q ↦ ap (λ i. Some (get_or (at ∷ ats) i d)) q.1 ∙ sym (ap of q.0)
+      | inr q ↦ ap (λ i. Some (get_or (at ∷ ats) i d)) q.2 ∙ held-index ns ats name q.0 d (omega (arith, l)) q.3 ∙ sym (ap of q.1)
     ]
 
 -- A ROOT HOLDS SOMETHING ELSE
@@ -358,3 +358,38 @@ pub filter-fewer : (ns : Places) → length (filter is_some ns) ≤ length ns
 filter-fewer [] = omega arith
 filter-fewer (None ∷ ns) = omega (arith, filter-fewer ns)
 filter-fewer (Some n ∷ ns) = omega (arith, filter-fewer ns)
+
+-- WITHOUT HOLES
+
+pub roots-few : (ns : Places) (ats : List Addr) → length (roots_of ns ats) ≤ length ns
+roots-few [] ats = omega arith
+roots-few (p ∷ ns) [] = omega arith
+roots-few (None ∷ ns) (at ∷ ats) = omega (arith, roots-few ns ats)
+roots-few (Some n ∷ ns) (at ∷ ats) = omega (arith, roots-few ns ats)
+
+take-whole : (xs : List Addr) → take (length xs) xs ≡ xs
+take-whole [] = refl
+take-whole (x ∷ xs) = ap (λ ys. x ∷ ys) (take-whole xs)
+
+-- the roots hold what was written to their addresses
+pub roots-lent : (ns : Places) (ats w : List Addr) → length ns ≡ length ats → length ns ≡ length (roots_of ns ats)
+    → roots_of ns (take (length ats) (w ++ drop (length w) ats)) ≡ holding (roots_of ns ats) w
+roots-lent [] ats w l f = refl
+roots-lent (p ∷ ns) [] w l f = absurd (omega (arith, l))
+roots-lent (None ∷ ns) (at ∷ ats) w l f = absurd (omega (arith, roots-few ns ats, f))
+roots-lent (Some n ∷ ns) (at ∷ ats) [] l f = ap (λ xs. root n at ∷ roots_of ns xs) (take-whole ats)
+roots-lent (Some n ∷ ns) (at ∷ ats) (x ∷ w) l f = ap (λ rs. root n x ∷ rs) (roots-lent ns ats w (omega (arith, l)) (omega (arith, f)))
+
+pub held-all : (ns : Places) (ats : List Addr) → length ns ≡ length ats → length ns ≡ length (roots_of ns ats) → held_by_all (roots_of ns ats) ≡ ats
+held-all [] [] l f = refl
+held-all [] (at ∷ ats) l f = absurd (omega (arith, l))
+held-all (p ∷ ns) [] l f = absurd (omega (arith, l))
+held-all (None ∷ ns) (at ∷ ats) l f = absurd (omega (arith, roots-few ns ats, f))
+held-all (Some n ∷ ns) (at ∷ ats) l f = ap (λ xs. at ∷ xs) (held-all ns ats (omega (arith, l)) (omega (arith, f)))
+
+-- how many roots there are does not hang on what they hold
+pub length-same : (ns : Places) (ats bts : List Addr) → length ns ≡ length ats → length bts ≡ length ats → length (roots_of ns ats) ≡ length (roots_of ns bts)
+length-same ns ats bts l m =
+    let a = length-filter ns ats l in
+    let b = length-filter ns bts (omega (arith, l, m)) in
+    omega (arith, a, b)

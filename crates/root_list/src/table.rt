@@ -52,7 +52,7 @@ impl Table {
         ensures { result ≡ held_at (roots_in self.now) name.now }
     {
         match self.place(name) {
-            Some(place) => self.addresses.get(place).copied(),
+            Some(place) => Some(self.addresses[place]),
             None => None,
         }
     }
