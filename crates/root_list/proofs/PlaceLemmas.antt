@@ -1,5 +1,5 @@
 -- Places of names, and the roots that stand at them.
-use Rattle.std.proofs.Common.{◌≡◌, ℕ, suc, zero, ◌+◌, ◌<◌, ◌≤◌, Bool, true, false, cond, not, ◌||◌, ◌⊎◌, true≢false, List, [], ◌∷◌, ◌++◌, Option, None, Some, length, filter, is_some, slice_set, get_or, take, drop, map, refl, sym, ap, subst, ◌∙◌, inl, inr, arith, length-append}
+use Rattle.std.proofs.Common.{◌≡◌, ℕ, suc, zero, ◌+◌, ◌-◌, slice_get, ◌<◌, ◌≤◌, Bool, true, false, cond, not, ◌||◌, ◌⊎◌, true≢false, List, [], ◌∷◌, ◌++◌, Option, None, Some, length, filter, is_some, slice_set, get_or, take, drop, map, refl, sym, ap, subst, ◌∙◌, inl, inr, arith, length-append}
 use Rattle.std.specs.List.{list_any, find}
 use Rattle.std.specs.Option.{option_map}
 use Rattle.std.proofs.lemmas.Bool.{cases_Bool}
@@ -393,3 +393,55 @@ length-same ns ats bts l m =
     let a = length-filter ns ats l in
     let b = length-filter ns bts (omega (arith, l, m)) in
     omega (arith, a, b)
+
+-- ROOTS FROM A PLACE ON
+
+pub place-left : (ns : Places) (ats : List Addr) (k left : ℕ) → left < length (roots_of (drop k ns) (drop k ats)) → k < length ns
+place-left [] ats zero left h = absurd (omega (arith, h))
+place-left [] ats (suc k) left h = absurd (omega (arith, h))
+place-left (p ∷ ns) ats zero left h = omega arith
+place-left (p ∷ ns) [] (suc k) left h = absurd (none-of ns k left h)
+  where
+    none-of : (ns : Places) (k left : ℕ) → left < length (roots_of (drop k ns) []) → ⊥
+    none-of [] zero left h = absurd (omega (arith, h))
+    none-of [] (suc k) left h = absurd (omega (arith, h))
+    none-of (p ∷ ns) zero left h = absurd (omega (arith, h))
+    none-of (p ∷ ns) (suc k) left h = none-of ns k left h
+place-left (p ∷ ns) (at ∷ ats) (suc k) left h = omega (arith, place-left ns ats k left h)
+
+-- the roots from a place on are those behind it, with that of the place in front where it has one
+abbrev with_place : Option (List ℕ) → Addr → List RootAt → List RootAt
+with_place None at rs = rs
+with_place (Some n) at rs = root n at ∷ rs
+
+pub roots-from : (ns : Places) (ats : List Addr) (k : ℕ) (d : Option (List ℕ)) (e : Addr) → length ns ≡ length ats → k < length ns
+    → roots_of (drop k ns) (drop k ats) ≡ with_place (get_or ns k d) (get_or ats k e) (roots_of (drop (suc k) ns) (drop (suc k) ats))
+roots-from [] ats k d e l h = absurd (omega (arith, h))
+roots-from (p ∷ ns) [] k d e l h = absurd (omega (arith, l))
+roots-from (None ∷ ns) (at ∷ ats) zero d e l h = refl
+roots-from (Some n ∷ ns) (at ∷ ats) zero d e l h = refl
+roots-from (p ∷ ns) (at ∷ ats) (suc k) d e l h = roots-from ns ats k d e (omega (arith, l)) (omega (arith, h))
+
+next : (k : ℕ) → suc k ≡ k + 1
+next k = omega arith
+
+-- the place is a hole
+pub at-hole : (ns : Places) (ats : List Addr) (k : ℕ) (p : Option (List ℕ)) → length ns ≡ length ats → k < length ns → p ≡ get_or ns k p → p ≡ None
+    → roots_of (drop k ns) (drop k ats) ≡ roots_of (drop (k + 1) ns) (drop (k + 1) ats)
+at-hole ns ats k p l h is none =
+    roots-from ns ats k p (record { 0 = 0 }) l h ∙ ap (λ o. with_place o (get_or ats k (record { 0 = 0 })) (roots_of (drop (suc k) ns) (drop (suc k) ats))) (sym is ∙ none)
+    ∙ ap (λ j. roots_of (drop j ns) (drop j ats)) (next k)
+
+-- the place has a root
+pub at-root : (ns : Places) (ats : List Addr) (k : ℕ) (p : Option (List ℕ)) (n : List ℕ) (e : Addr) → length ns ≡ length ats → k < length ns → p ≡ get_or ns k p → p ≡ Some n
+    → roots_of (drop k ns) (drop k ats) ≡ root n (get_or ats k e) ∷ roots_of (drop (k + 1) ns) (drop (k + 1) ats)
+at-root ns ats k p n e l h is some =
+    roots-from ns ats k p e l h ∙ ap (λ o. with_place o (get_or ats k e) (roots_of (drop (suc k) ns) (drop (suc k) ats))) (sym is ∙ some)
+    ∙ ap (λ j. root n (get_or ats k e) ∷ roots_of (drop j ns) (drop j ats)) (next k)
+
+-- behind a first one
+pub behind-first : (rs more : List RootAt) (r : RootAt) (left less : ℕ) → rs ≡ r ∷ more → left < length rs → (left ≡ 0 → ⊥) → less ≡ left - 1
+    → (less < length more) × (slice_get more less ≡ slice_get rs left)
+behind-first rs more r zero less e h ne is = absurd (ne refl)
+behind-first rs more r (suc left) less e h ne is =
+    (omega (arith, is, h, ap length e), ap (slice_get more) (omega (arith, is)) ∙ sym (ap (λ l. slice_get l (suc left)) e))
