@@ -445,3 +445,65 @@ pub behind-first : (rs more : List RootAt) (r : RootAt) (left less : ℕ) → rs
 behind-first rs more r zero less e h ne is = absurd (ne refl)
 behind-first rs more r (suc left) less e h ne is =
     (omega (arith, is, h, ap length e), ap (slice_get more) (omega (arith, is)) ∙ sym (ap (λ l. slice_get l (suc left)) e))
+
+-- ADDRESSES FROM A PLACE ON
+
+abbrev with_kept : Option (List ℕ) → Addr → List Addr → List Addr
+with_kept None at more = more
+with_kept (Some n) at more = at ∷ more
+
+kept-from : (ns : Places) (ats : List Addr) (k : ℕ) (d : Option (List ℕ)) (e : Addr) → length ns ≡ length ats → k < length ns
+    → kept_of (drop k ns) (drop k ats) ≡ with_kept (get_or ns k d) (get_or ats k e) (kept_of (drop (suc k) ns) (drop (suc k) ats))
+kept-from [] ats k d e l h = absurd (omega (arith, h))
+kept-from (p ∷ ns) [] k d e l h = absurd (omega (arith, l))
+kept-from (None ∷ ns) (at ∷ ats) zero d e l h = refl
+kept-from (Some n ∷ ns) (at ∷ ats) zero d e l h = refl
+kept-from (p ∷ ns) (at ∷ ats) (suc k) d e l h = kept-from ns ats k d e (omega (arith, l)) (omega (arith, h))
+
+take-set : (ats : List Addr) (i : ℕ) (a : Addr) → i < length ats → take (suc i) (slice_set ats i a) ≡ take i ats ++ a ∷ []
+take-set [] i a h = absurd (omega (arith, h))
+take-set (x ∷ ats) zero a h = refl
+take-set (x ∷ ats) (suc i) a h = ap (λ more. x ∷ more) (take-set ats i a (omega (arith, h)))
+
+drop-set : (ats : List Addr) (i k : ℕ) (a : Addr) → i ≤ k → drop (suc k) (slice_set ats i a) ≡ drop (suc k) ats
+drop-set [] i k a h = refl
+drop-set (x ∷ ats) zero k a h = refl
+drop-set (x ∷ ats) (suc i) zero a h = absurd (omega (arith, h))
+drop-set (x ∷ ats) (suc i) (suc k) a h = drop-set ats i k a (omega (arith, h))
+
+with-some : (p : Option (List ℕ)) (at : Addr) (more : List Addr) → is_some p ≡ true → with_kept p at more ≡ at ∷ more
+with-some None at more e = absurd (true≢false (sym e))
+with-some (Some n) at more e = refl
+
+with-none : (p : Option (List ℕ)) (at : Addr) (more : List Addr) → is_some p ≡ false → with_kept p at more ≡ more
+with-none None at more e = refl
+with-none (Some n) at more e = absurd (true≢false e)
+
+-- a hole is passed over
+pub pack-hole : (ns : Places) (ats : List Addr) (kept k : ℕ) (p : Option (List ℕ)) → length ns ≡ length ats → k < length ns → p ≡ get_or ns k p → is_some p ≡ false
+    → take kept ats ++ kept_of (drop (k + 1) ns) (drop (k + 1) ats) ≡ take kept ats ++ kept_of (drop k ns) (drop k ats)
+pack-hole ns ats kept k p l h is none =
+    ap (λ more. take kept ats ++ more)
+    (ap (λ j. kept_of (drop j ns) (drop j ats)) (sym (next k)) ∙ sym (with-none (get_or ns k p) (record { 0 = 0 }) (kept_of (drop (suc k) ns) (drop (suc k) ats)) (ap is_some (sym is) ∙ none))
+    ∙ sym (kept-from ns ats k p (record { 0 = 0 }) l h ∙ away-from (get_or ns k p) (ap is_some (sym is) ∙ none)))
+  where
+    away-from : (o : Option (List ℕ)) → is_some o ≡ false → with_kept o (get_or ats k (record { 0 = 0 })) (kept_of (drop (suc k) ns) (drop (suc k) ats)) ≡ with_kept o (record { 0 = 0 }) (kept_of (drop (suc k) ns) (drop (suc k) ats))
+    away-from None e = refl
+    away-from (Some n) e = absurd (true≢false e)
+
+-- a root's address is moved behind those that are kept
+pub pack-root : (ns : Places) (ats : List Addr) (kept k : ℕ) (p : Option (List ℕ)) (a : Addr) → length ns ≡ length ats → k < length ns → kept ≤ k → p ≡ get_or ns k p → is_some p ≡ true → a ≡ get_or ats k a
+    → take (kept + 1) (slice_set ats kept a) ++ kept_of (drop (k + 1) ns) (drop (k + 1) (slice_set ats kept a)) ≡ take kept ats ++ kept_of (drop k ns) (drop k ats)
+pack-root ns ats kept k p a l h few is some value =
+    ap (λ j. take j (slice_set ats kept a) ++ kept_of (drop (k + 1) ns) (drop (k + 1) (slice_set ats kept a))) (sym (next kept))
+    ∙ ap (λ front. front ++ kept_of (drop (k + 1) ns) (drop (k + 1) (slice_set ats kept a))) (take-set ats kept a (omega (arith, few, h, l)))
+    ∙ ap (λ j. (take kept ats ++ a ∷ []) ++ kept_of (drop j ns) (drop j (slice_set ats kept a))) (sym (next k))
+    ∙ ap (λ more. (take kept ats ++ a ∷ []) ++ kept_of (drop (suc k) ns) more) (drop-set ats kept k a few)
+    ∙ seam (take kept ats) a (kept_of (drop (suc k) ns) (drop (suc k) ats))
+    ∙ ap (λ more. take kept ats ++ more)
+        (ap (λ b. b ∷ kept_of (drop (suc k) ns) (drop (suc k) ats)) value
+        ∙ sym (kept-from ns ats k p a l h ∙ with-some (get_or ns k p) (get_or ats k a) (kept_of (drop (suc k) ns) (drop (suc k) ats)) (ap is_some (sym is) ∙ some)))
+  where
+    seam : (xs : List Addr) (y : Addr) (zs : List Addr) → (xs ++ y ∷ []) ++ zs ≡ xs ++ y ∷ zs
+    seam [] y zs = refl
+    seam (x ∷ xs) y zs = ap (λ more. x ∷ more) (seam xs y zs)
