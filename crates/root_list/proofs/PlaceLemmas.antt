@@ -507,3 +507,41 @@ pack-root ns ats kept k p a l h few is some value =
     seam : (xs : List Addr) (y : Addr) (zs : List Addr) → (xs ++ y ∷ []) ++ zs ≡ xs ++ y ∷ zs
     seam [] y zs = refl
     seam (x ∷ xs) y zs = ap (λ more. x ∷ more) (seam xs y zs)
+
+-- PLACES ONE AFTER THE OTHER
+
+has-place : (ns : Places) (k : ℕ) (n : List ℕ) (d : Option (List ℕ)) → k < length ns → get_or ns k d ≡ Some n → place_of ns n ≡ None → ⊥
+has-place [] k n d h e none = absurd (omega (arith, h))
+has-place (p ∷ ns) zero n d h e none = true≢false (sym (ap (named n) e ∙ same_name-refl n) ∙ (none-head n p ns none).0)
+has-place (p ∷ ns) (suc k) n d h e none = has-place ns k n d (omega (arith, h)) e (none-head n p ns none).1
+
+-- the name of a place has none before it
+pub fresh-before : (ns : Places) (k : ℕ) (n : List ℕ) (d : Option (List ℕ)) → AreApart ns → k < length ns → get_or ns k d ≡ Some n → place_of (take k ns) n ≡ None
+fresh-before [] k n d apart h e = absurd (omega (arith, h))
+fresh-before (p ∷ ns) zero n d apart h e = refl
+fresh-before (p ∷ ns) (suc k) n d apart h e = place-no n p (take k ns) (not-here p apart.0) (fresh-before ns k n d apart.1 (omega (arith, h)) e)
+  where
+    not-here : (p : Option (List ℕ)) → IsFresh p ns → named n p ≡ false
+    not-here None f = refl
+    not-here (Some m) f = elim (cases_Bool (same_name m n)) [
+      | inl same ↦ absurd (has-place ns k n d (omega (arith, h)) e (away ns m n same f))
+      | inr other ↦ other
+    ]
+
+pub no-hole : (ns : Places) (k : ℕ) (d : Option (List ℕ)) → filter is_some ns ≡ ns → k < length ns → get_or ns k d ≡ None → ⊥
+no-hole [] k d full h e = absurd (omega (arith, h))
+no-hole (None ∷ ns) k d full h e = absurd (omega (arith, filter-fewer ns, ap length full))
+no-hole (Some n ∷ ns) zero d full h e = none-some n (sym e)
+no-hole (Some n ∷ ns) (suc k) d full h e = no-hole ns k d (ap rest full) (omega (arith, h)) e
+  where
+    rest : Places → Places
+    rest [] = []
+    rest (p ∷ ps) = ps
+
+pub take-next : (ns : Places) (k : ℕ) (d : Option (List ℕ)) → k < length ns → take (k + 1) ns ≡ take k ns ++ get_or ns k d ∷ []
+take-next ns k d h = ap (λ j. take j ns) (sym (next k)) ∙ go ns k h
+  where
+    go : (ns : Places) (k : ℕ) → k < length ns → take (suc k) ns ≡ take k ns ++ get_or ns k d ∷ []
+    go [] k h = absurd (omega (arith, h))
+    go (p ∷ ns) zero h = refl
+    go (p ∷ ns) (suc k) h = ap (λ more. p ∷ more) (go ns k (omega (arith, h)))
