@@ -9,7 +9,8 @@ use Rattle.class_layout.specs.Names.{same_name}
 use Rattle.class_layout.proofs.Lists.{option_map-none}
 use Rattle.class_layout.proofs.Uniqueness.{names-same, same_name-refl, same_name-symm}
 use Rattle.root_list.specs.declared.root.RootAt.{RootAt}
-use Rattle.root_list.specs.Roots.{is_root, held_by_all, holding, holds_in, held_at, hold_if, with_held, with_root, with_root_if, without_root}
+use Rattle.std.proofs.Math.Seq.{take-length}
+use Rattle.root_list.specs.Roots.{RootList, is_root, held_by_all, holding, holds_in, held_at, hold_if, with_held, with_root, with_root_if, without_root}
 use Rattle.root_list.specs.Places.{roots_of, kept_of, named, first_if, place_of, IsFresh, AreApart}
 
 abbrev Places : Type 0
@@ -545,3 +546,33 @@ take-next ns k d h = ap (λ j. take j ns) (sym (next k)) ∙ go ns k h
     go [] k h = absurd (omega (arith, h))
     go (p ∷ ns) zero h = refl
     go (p ∷ ns) (suc k) h = ap (λ more. p ∷ more) (go ns k (omega (arith, h)))
+
+-- ADDRESSES THAT ARE LENT
+
+few-roots : (ns : Places) (ats : List Addr) → length (roots_of ns ats) ≤ length ns
+few-roots [] ats = omega arith
+few-roots (p ∷ ns) [] = omega arith
+few-roots (None ∷ ns) (at ∷ ats) = omega (arith, few-roots ns ats)
+few-roots (Some n ∷ ns) (at ∷ ats) = omega (arith, few-roots ns ats)
+
+-- where no place is a hole, the roots hold the addresses
+pub held-full : (ns : Places) (ats : List Addr) → length ns ≡ length ats → length ns ≡ length (roots_of ns ats) → ats ≡ held_by_all (roots_of ns ats)
+held-full [] [] l full = refl
+held-full [] (at ∷ ats) l full = absurd (omega (arith, l))
+held-full (p ∷ ns) [] l full = absurd (omega (arith, l))
+held-full (None ∷ ns) (at ∷ ats) l full = absurd (omega (arith, full, few-roots ns ats))
+held-full (Some n ∷ ns) (at ∷ ats) l full = ap (λ more. at ∷ more) (held-full ns ats (omega (arith, l)) (omega (arith, full)))
+
+-- what is written over them they hold
+pub roots-held : (ns : Places) (ats w : List Addr) (n : ℕ) → length ns ≡ length ats → length ns ≡ length (roots_of ns ats) → n ≡ length ats
+    → roots_of ns (take n (w ++ drop (length w) ats)) ≡ holding (roots_of ns ats) w
+roots-held [] ats w n l full e = refl
+roots-held (p ∷ ns) [] w n l full e = absurd (omega (arith, l))
+roots-held (None ∷ ns) (at ∷ ats) w n l full e = absurd (omega (arith, full, few-roots ns ats))
+roots-held (Some m ∷ ns) (at ∷ ats) [] n l full e = ap (λ j. roots_of (Some m ∷ ns) (take j (at ∷ ats))) e ∙ ap (λ more. root m at ∷ roots_of ns more) (take-length ats)
+roots-held (Some m ∷ ns) (at ∷ ats) (b ∷ w) n l full e =
+    ap (λ j. roots_of (Some m ∷ ns) (take j ((b ∷ w) ++ drop (length (b ∷ w)) (at ∷ ats)))) e
+    ∙ ap (λ rs. root m b ∷ rs) (roots-held ns ats w (length ats) (omega (arith, l)) (omega (arith, full)) refl)
+
+pub same-list : (one other : RootList) → one.roots ≡ other.roots → one.ready ≡ other.ready → one ≡ other
+same-list one other roots ready = ap (λ rs. record { roots = rs; ready = one.ready }) roots ∙ ap (λ b. record { roots = other.roots; ready = b }) ready
