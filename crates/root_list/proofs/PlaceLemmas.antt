@@ -1,6 +1,6 @@
 -- Places of names, and the roots that stand at them.
-use Rattle.std.proofs.Common.{◌≡◌, ℕ, suc, zero, ◌+◌, ◌-◌, slice_get, ◌<◌, ◌≤◌, Bool, true, false, cond, not, ◌||◌, ◌⊎◌, true≢false, List, [], ◌∷◌, ◌++◌, Option, None, Some, length, filter, is_some, slice_set, get_or, take, drop, map, refl, sym, ap, subst, ◌∙◌, inl, inr, arith, length-append}
-use Rattle.std.specs.List.{list_any, find}
+use Rattle.std.proofs.Common.{◌≡◌, ℕ, suc, zero, ◌+◌, ◌-◌, slice_get, ◌<◌, ◌≤◌, Bool, true, false, cond, not, ◌||◌, ◌⊎◌, true≢false, List, [], ◌∷◌, ◌++◌, Option, None, Some, length, filter, is_some, slice_set, get_or, take, drop, refl, sym, ap, ◌∙◌, inl, inr, arith, length-append}
+use Rattle.std.specs.List.{find}
 use Rattle.std.specs.Option.{option_map}
 use Rattle.std.proofs.lemmas.Bool.{cases_Bool}
 use Rattle.std.proofs.lemmas.Option.{same_Some, none-some}
@@ -182,7 +182,7 @@ roots-fewer (Some n ∷ ns) (at ∷ ats) name k l h =
       | inl q ↦ ap (λ i. length (roots_of (slice_set (Some n ∷ ns) i None) (at ∷ ats)) + 1) q.1 ∙ omega arith
       | inr q ↦
           let e : length (roots_of (slice_set (Some n ∷ ns) k None) (at ∷ ats)) ≡ suc (length (roots_of (slice_set ns q.0 None) ats)) =
-              ap (λ i. length (roots_of (slice_set (Some n ∷ ns) i None) (at ∷ ats))) q.2 in
+          ap (λ i. length (roots_of (slice_set (Some n ∷ ns) i None) (at ∷ ats))) q.2 in
           omega (arith, e, roots-fewer ns ats name q.0 (omega (arith, l)) q.3)
     ]
 
@@ -502,8 +502,8 @@ pack-root ns ats kept k p a l h few is some value =
     ∙ ap (λ more. (take kept ats ++ a ∷ []) ++ kept_of (drop (suc k) ns) more) (drop-set ats kept k a few)
     ∙ seam (take kept ats) a (kept_of (drop (suc k) ns) (drop (suc k) ats))
     ∙ ap (λ more. take kept ats ++ more)
-        (ap (λ b. b ∷ kept_of (drop (suc k) ns) (drop (suc k) ats)) value
-        ∙ sym (kept-from ns ats k p a l h ∙ with-some (get_or ns k p) (get_or ats k a) (kept_of (drop (suc k) ns) (drop (suc k) ats)) (ap is_some (sym is) ∙ some)))
+    (ap (λ b. b ∷ kept_of (drop (suc k) ns) (drop (suc k) ats)) value
+    ∙ sym (kept-from ns ats k p a l h ∙ with-some (get_or ns k p) (get_or ats k a) (kept_of (drop (suc k) ns) (drop (suc k) ats)) (ap is_some (sym is) ∙ some)))
   where
     seam : (xs : List Addr) (y : Addr) (zs : List Addr) → (xs ++ y ∷ []) ++ zs ≡ xs ++ y ∷ zs
     seam [] y zs = refl

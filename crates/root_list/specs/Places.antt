@@ -1,5 +1,5 @@
 -- Where roots stand: places in the order of first writing, of which some are holes.
-use Rattle.std.specs.Prelude.{◌≡◌, ◌+◌, ◌≤◌, ◌<◌, ⊤, ℕ, suc, Bool, true, false, List, [], ◌∷◌, ◌||◌, Option, None, Some, length, nat_eq, vec_capacity}
+use Rattle.std.specs.Prelude.{◌≡◌, ◌+◌, ◌≤◌, ⊤, ℕ, suc, Bool, true, false, List, [], ◌∷◌, Option, None, Some, length, vec_capacity}
 use Rattle.std.specs.Option.{option_map}
 use Rattle.indexmap.specs.IndexMap.{get, spare, index_map_len}
 use Rattle.page_tables.specs.declared.address.Addr.{Addr}

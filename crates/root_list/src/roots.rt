@@ -3,7 +3,7 @@ ghost use Rattle.std.specs.Prelude.{◌≡◌, ◌<◌, [], true, Some, length, 
 ghost use Rattle.root_list.specs.Roots.{held_at, is_root, with_root, without_root, held_by_all, holding};
 
 use crate::root::RootAt;
-use crate::table::{nth, Table};
+use crate::table::{Table, nth};
 use class_layout::Name;
 use page_tables::Addr;
 use std::alloc::{AllocError, Global};

@@ -1,4 +1,4 @@
-use Rattle.std.proofs.Common.{◌≡◌, ℕ, ◌∙◌, sym, ap, length, slice_get, arith, subst, ◌<◌, ◌+◌, drop}
+use Rattle.std.proofs.Common.{◌∙◌, sym, ap, length, slice_get, subst, ◌<◌, ◌+◌, drop}
 use Rattle.root_list.specs.Places.{roots_of}
 use Rattle.root_list.proofs.PlaceLemmas.{place-left, at-hole, at-root, behind-first}
 use Rattle.root_list.proofs.table.nth.Goals as goal
@@ -13,7 +13,7 @@ loop-place-preserved c =
     elim c.match-names-place.branch [
       | in-Some+else-left-eq0 w ↦
           let rest = behind-first _ _ _ c.loop-place.left c.match-names-place.left (at-root ns ats k c.index-names-place.result w.in-Some.name (record { 0 = 0 }) c.requires.long near c.index-names-place.is w.in-Some.is)
-              c.loop-place.invariant.within w.if-left-eq0.false w.left-is in
+          c.loop-place.invariant.within w.if-left-eq0.false w.left-is in
           record { within = rest.0; same = rest.1 ∙ c.loop-place.invariant.same }
       | in_default w ↦
           let rest = at-hole ns ats k c.index-names-place.result c.requires.long near c.index-names-place.is w.in_default.is in

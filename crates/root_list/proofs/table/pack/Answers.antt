@@ -1,4 +1,4 @@
-use Rattle.std.proofs.Common.{◌≡◌, ◌∙◌, ◌++◌, ◌+◌, ap, sym, arith, length, take, drop, vec_capacity, slice_set}
+use Rattle.std.proofs.Common.{◌∙◌, ◌++◌, ◌+◌, ap, sym, arith, length, take, drop, vec_capacity}
 use Rattle.std.proofs.lemmas.List.{length-set}
 use Rattle.root_list.specs.Places.{kept_of}
 use Rattle.root_list.proofs.PlaceLemmas.{pack-hole, pack-root}

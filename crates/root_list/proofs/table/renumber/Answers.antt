@@ -1,4 +1,4 @@
-use Rattle.std.proofs.Common.{◌≡◌, ◌∙◌, ◌++◌, ◌∷◌, [], Some, ap, sym, arith, take, cond, length}
+use Rattle.std.proofs.Common.{◌∙◌, ◌++◌, ◌∷◌, [], Some, ap, sym, arith, take, cond}
 use Rattle.std.proofs.lemmas.List.{length-take-le}
 use Rattle.indexmap.specs.IndexMap.{get, index_map_len, spare}
 use Rattle.class_layout.specs.Names.{same_name}

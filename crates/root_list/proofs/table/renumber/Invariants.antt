@@ -1,4 +1,4 @@
-use Rattle.std.proofs.Common.{◌≡◌, ◌≤◌, ◌+◌, ℕ, List, length, take}
+use Rattle.std.proofs.Common.{◌≡◌, ◌≤◌, ◌+◌, ℕ, List, take}
 use Rattle.indexmap.specs.IndexMap.{get, spare, index_map_len}
 use Rattle.class_layout.specs.Names.{same_name}
 use Rattle.root_list.specs.Places.{place_of}

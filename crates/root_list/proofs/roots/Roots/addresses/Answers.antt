@@ -1,6 +1,5 @@
 use Rattle.std.proofs.Common.{◌≡◌, ◌∙◌, ap, sym, refl, length, arith}
 use Rattle.std.specs.Vec.{with_items}
-use Rattle.root_list.specs.Places.{roots_in}
 use Rattle.root_list.specs.Roots.{held_by_all, holding}
 use Rattle.root_list.proofs.PlaceLemmas.{held-full, length-same, roots-held, same-list}
 use Rattle.root_list.proofs.roots.Roots.addresses.Goals as goal
@@ -25,8 +24,7 @@ returns c =
     let ns = c.settle.new.self.names.items in
     let old = c.settle.new.self.addresses in
     let roots = c.settle.ensures.roots ∙ ap (λ v. v.roots) c.self.view_is in
-    let full = c.settle.ensures.full ∙ sym (ap length c.settle.ensures.roots) in
-    (
+    let full = c.settle.ensures.full ∙ sym (ap length c.settle.ensures.roots) in (
       (refl, λ w. same-list _ _ (roots-held ns old.items w old.len t.long full old.ok.0 ∙ ap (λ rs. holding rs w) roots) (c.settle.ensures.ready ∙ ap (λ v. v.ready) c.self.view_is)),
       record { written = tt; held = c.as_mut_slice.ensures.value ∙ held-full ns old.items t.long full ∙ ap held_by_all roots },
     )

@@ -1,4 +1,4 @@
-use Rattle.std.proofs.Common.{◌≡◌, ◌<◌, ◌+◌, length, is_some, arith, ◌∙◌, sym, ap, Some, None, cond}
+use Rattle.std.proofs.Common.{◌≡◌, ◌<◌, length, arith, ◌∙◌, sym, ap, Some, None, cond}
 use Rattle.std.proofs.lemmas.List.{length-set}
 use Rattle.class_layout.specs.Names.{same_name}
 use Rattle.root_list.specs.Places.{place_of}

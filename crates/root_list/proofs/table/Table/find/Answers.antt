@@ -1,4 +1,4 @@
-use Rattle.std.proofs.Common.{◌≡◌, ◌<◌, ◌∙◌, Some, ap, sym, length, arith}
+use Rattle.std.proofs.Common.{◌<◌, ◌∙◌, Some, ap, sym, length, arith}
 use Rattle.root_list.proofs.PlaceLemmas.{held-none, held-index, place-within}
 use Rattle.root_list.proofs.table.Table.find.Goals as goal
 

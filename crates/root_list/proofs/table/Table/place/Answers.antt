@@ -1,4 +1,4 @@
-use Rattle.std.proofs.Common.{◌≡◌, is_some, ◌∙◌, sym, ap}
+use Rattle.std.proofs.Common.{is_some, ◌∙◌, sym, ap}
 use Rattle.root_list.proofs.PlaceLemmas.{root-placed}
 use Rattle.root_list.proofs.table.Table.place.Goals as goal
 

@@ -1,4 +1,4 @@
-use Rattle.std.proofs.Common.{◌≡◌, ◌∙◌, ◌+◌, ◌++◌, ◌∷◌, [], Some, None, ap, sym, subst, cond, length, arith, length-append}
+use Rattle.std.proofs.Common.{◌≡◌, ◌∙◌, ◌+◌, ◌++◌, ◌∷◌, [], Some, ap, sym, subst, cond, length, arith, length-append}
 use Rattle.class_layout.specs.Names.{same_name}
 use Rattle.root_list.specs.Places.{roots_of, place_of, AreApart}
 use Rattle.root_list.proofs.PlaceLemmas.{root-push, place-push, apart-push, length-push}
@@ -22,9 +22,9 @@ returns-clause-table c =
     let e1 : length c.push_reserved.new.self.items ≡ length ns + 1 = ap length i1 ∙ length-append ns (Some c.args.name ∷ []) in
     let e2 : length c.push_reserved-2.new.self.items ≡ length ats + 1 = ap length i2 ∙ length-append ats (c.args.holds ∷ []) in
     let roots : length (roots_of c.push_reserved.new.self.items c.push_reserved-2.new.self.items) ≡ length (roots_of ns ats) + 1 =
-        ap (λ ps. length (roots_of ps c.push_reserved-2.new.self.items)) i1
-        ∙ ap (λ as'. length (roots_of (ns ++ Some c.args.name ∷ []) as')) i2
-        ∙ length-push ns ats c.args.name c.args.holds t.long in
+    ap (λ ps. length (roots_of ps c.push_reserved-2.new.self.items)) i1
+    ∙ ap (λ as'. length (roots_of (ns ++ Some c.args.name ∷ []) as')) i2
+    ∙ length-push ns ats c.args.name c.args.holds t.long in
     let count : c.len.result ≡ length ns = omega (arith, c.len.ensures) in
     record {
       long = omega (arith, e1, e2, t.long);

@@ -1,4 +1,4 @@
-use Rattle.std.proofs.Common.{◌≡◌, ◌<◌, length, arith, ◌∙◌, sym, ap, Some}
+use Rattle.std.proofs.Common.{◌<◌, length, arith, ◌∙◌, sym}
 use Rattle.std.proofs.lemmas.List.{length-set}
 use Rattle.root_list.proofs.PlaceLemmas.{place-within, root-put, length-put}
 use Rattle.root_list.proofs.table.Table.put.Goals as goal

@@ -1,4 +1,4 @@
-use Rattle.std.proofs.Common.{◌≡◌, ◌∙◌, ◌+◌, ◌≤◌, List, ap, sym, subst, length, filter, is_some, arith}
+use Rattle.std.proofs.Common.{◌≡◌, ◌∙◌, ap, sym, subst, length, filter, is_some, arith}
 use Rattle.root_list.specs.Places.{roots_of, kept_of, place_of, AreApart}
 use Rattle.root_list.proofs.PlaceLemmas.{roots-kept, length-kept, length-filter, filter-twice, apart-filter, filter-fewer}
 use Rattle.root_list.proofs.table.Table.settle.Goals as goal
@@ -26,7 +26,7 @@ returns-clause-roots c =
     let ns = c.args.self.now.names.items in
     let ats = c.args.self.now.addresses.items in
     let packed : c.pack.new.addresses.items ≡ kept_of ns ats =
-        c.pack.ensures.kept ∙ ap (λ ps. kept_of ps ats) c.deref.ensures.value in
+    c.pack.ensures.kept ∙ ap (λ ps. kept_of ps ats) c.deref.ensures.value in
     ap (λ ps. roots_of ps c.pack.new.addresses.items) c.keep_names.ensures.items ∙ ap (roots_of (filter is_some ns)) packed ∙ roots-kept ns ats
 
 pub returns-clause-table : goal.returns-clause-table
@@ -37,9 +37,9 @@ returns-clause-table c =
     let items = c.keep_names.ensures.items in
     let e = c.deref-2.ensures.value ∙ items in
     let packed : c.pack.new.addresses.items ≡ kept_of ns ats =
-        c.pack.ensures.kept ∙ ap (λ ps. kept_of ps ats) c.deref.ensures.value in
+    c.pack.ensures.kept ∙ ap (λ ps. kept_of ps ats) c.deref.ensures.value in
     let roots : roots_of c.keep_names.new.names.items c.pack.new.addresses.items ≡ roots_of ns ats =
-        ap (λ ps. roots_of ps c.pack.new.addresses.items) items ∙ ap (roots_of (filter is_some ns)) packed ∙ roots-kept ns ats in
+    ap (λ ps. roots_of ps c.pack.new.addresses.items) items ∙ ap (roots_of (filter is_some ns)) packed ∙ roots-kept ns ats in
     let few = filter-fewer ns in
     let long : length c.keep_names.new.names.items ≡ length c.pack.new.addresses.items = ap length items ∙ length-kept ns ats t.long ∙ sym (ap length packed) in
     record {
