@@ -12,7 +12,7 @@ use Rattle.heap_world.proofs.Processes.{apart-symm}
 use Rattle.heap_world.specs.Part.{Part}
 use Rattle.heap_world.specs.Sound as world
 use Rattle.object_view.specs.Seen.{root_address}
-use Rattle.root_list.specs.declared.roots.RootAt.{RootAt}
+use Rattle.root_list.specs.declared.root.RootAt.{RootAt}
 use Rattle.root_list.specs.Roots.{held_by_all, hold_if, is_root, with_held, with_root, with_root_if, without_root}
 use Rattle.world_laws.specs.Outward.{NotesWithin}
 use Rattle.graph_pages.specs.Pages.{PagesHold}

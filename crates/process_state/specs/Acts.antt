@@ -12,6 +12,7 @@ use Rattle.heap_world.specs.declared.command.Verb.TheVariants as verb
 use Rattle.heap_world.specs.declared.names.PageName.{PageName}
 use Rattle.heap_world.specs.declared.reply.Refusal.TheVariants.{NotSealed}
 use Rattle.heap_world.specs.declared.reply.Reply.{Reply}
+use Rattle.heap_world.specs.declared.reply.Reply.TheVariants.{Done}
 use Rattle.heap_world.specs.Acts.{act, fork_part, gc_to}
 use Rattle.heap_world.specs.Effect.{refuses, tells, Effect}
 use Rattle.heap_world.specs.Pages.{is_touched}
@@ -82,8 +83,10 @@ pub record JoinsTable (old new : Memory) (t u : ℕ) : Type 0 where
   pub settled : IsSettled new u
   pub rest : ChangesTable old new u
 
--- a fork: the process promotes, then a child joins, and both stand in the memory with the child
+-- a fork that wasn't refused: the process promotes, then a child joins, and both stand in the memory with the child
 pub record Forks (c : Step) (made : State) (p : Part) : Type 0 where
+  pub is_sealed : p.graph.sealed ≡ true
+  pub done : (fork_part p).reply ≡ Done
   pub between : Memory
   pub acts : Acts (record c { now = between }) p (fork_part p)
   pub joins : JoinsTable between c.now c.old.page_table made.page_table

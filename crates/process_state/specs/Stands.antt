@@ -20,7 +20,7 @@ use Rattle.zygote_space.specs.Space as zygote
 use Rattle.graph_pages.specs.Pages.{page_named}
 use Rattle.evacuate.specs.Stands.{HoldsHeap}
 use Rattle.zygote_compact.specs.Spots.{HasSpots}
-use Rattle.root_list.specs.declared.roots.RootAt.{RootAt}
+use Rattle.root_list.specs.declared.root.RootAt.{RootAt}
 use Rattle.process_state.specs.State.{addresses_in, heap_of, State}
 use Rattle.process_state.specs.Cards.{NotesCards}
 

@@ -11,7 +11,7 @@ use Rattle.heap_graph.specs.Graph.{Graph}
 use Rattle.object_view.specs.declared.names.Slot.{Slot}
 use Rattle.object_collection.specs.Collects.{state_of, HeapState}
 use Rattle.evacuate.specs.Stands.{homes_in}
-use Rattle.root_list.specs.declared.roots.RootAt.{RootAt}
+use Rattle.root_list.specs.declared.root.RootAt.{RootAt}
 use Rattle.root_list.specs.Roots.{held_by_all}
 
 -- which cards of an immune space may hold a reference out of it: the dirty ones, and the recorded ones

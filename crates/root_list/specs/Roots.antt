@@ -3,7 +3,7 @@ use Rattle.std.specs.Prelude.{ℕ, Bool, true, false, not, List, [], ◌∷◌, 
 use Rattle.std.specs.List.{find, list_any}
 use Rattle.page_tables.specs.declared.address.Addr.{Addr}
 use Rattle.class_layout.specs.Names.{same_name}
-use Rattle.root_list.specs.declared.roots.RootAt.{RootAt}
+use Rattle.root_list.specs.declared.root.RootAt.{RootAt}
 
 -- the roots in the order in which they were first written, and whether one more can be written without memory
 pub record RootList : Type 0 where
