@@ -1,5 +1,5 @@
 -- Places of names, and the roots that stand at them.
-use Rattle.std.proofs.Common.{◌≡◌, ℕ, suc, zero, ◌+◌, ◌-◌, slice_get, ◌<◌, ◌≤◌, Bool, true, false, cond, not, ◌||◌, ◌⊎◌, true≢false, List, [], ◌∷◌, ◌++◌, Option, None, Some, length, filter, is_some, slice_set, get_or, take, drop, refl, sym, ap, ◌∙◌, inl, inr, arith, length-append}
+use Rattle.std.proofs.Common.{◌≡◌, ℕ, suc, zero, ◌+◌, ◌-◌, slice_get, ◌<◌, ◌≤◌, Bool, true, false, cond, not, ◌||◌, ◌⊎◌, true≢false, List, [], ◌∷◌, ◌++◌, Option, None, Some, length, filter, is_some, slice_set, get_or, take, drop, refl, sym, subst, ap, ◌∙◌, inl, inr, arith, length-append}
 use Rattle.std.specs.List.{find}
 use Rattle.std.specs.Option.{option_map}
 use Rattle.std.proofs.lemmas.Bool.{cases_Bool}
@@ -576,3 +576,25 @@ roots-held (Some m ∷ ns) (at ∷ ats) (b ∷ w) n l full e =
 
 pub same-list : (one other : RootList) → one.roots ≡ other.roots → one.ready ≡ other.ready → one ≡ other
 same-list one other roots ready = ap (λ rs. record { roots = rs; ready = one.ready }) roots ∙ ap (λ b. record { roots = other.roots; ready = b }) ready
+
+-- where no place is a hole, the roots from a place on are the last ones
+pub roots-behind : (ns : Places) (ats : List Addr) (k : ℕ) → length ns ≡ length ats → length (roots_of ns ats) ≡ length ns → roots_of (drop k ns) (drop k ats) ≡ drop k (roots_of ns ats)
+roots-behind ns ats zero l full = refl
+roots-behind [] [] (suc k) l full = refl
+roots-behind [] (at ∷ ats) (suc k) l full = absurd (omega (arith, l))
+roots-behind (p ∷ ns) [] (suc k) l full = absurd (omega (arith, l))
+roots-behind (None ∷ ns) (at ∷ ats) (suc k) l full = absurd (omega (arith, full, few-roots ns ats))
+roots-behind (Some n ∷ ns) (at ∷ ats) (suc k) l full = roots-behind ns ats k (omega (arith, l)) (omega (arith, full))
+
+-- the first of the last ones
+pub first-behind : (rs : List RootAt) (k : ℕ) → k < length rs → (0 < length (drop k rs)) × (slice_get (drop k rs) 0 ≡ slice_get rs k)
+first-behind [] k h = absurd (omega (arith, h))
+first-behind (r ∷ rs) zero h = (omega arith, refl)
+first-behind (r ∷ rs) (suc k) h = first-behind rs k (omega (arith, h))
+
+pub direct : (ns : Places) (ats : List Addr) (k : ℕ) → length ns ≡ length ats → length (roots_of ns ats) ≡ length ns → k < length (roots_of ns ats)
+    → (0 < length (roots_of (drop k ns) (drop k ats))) × (slice_get (roots_of (drop k ns) (drop k ats)) 0 ≡ slice_get (roots_of ns ats) k)
+direct ns ats k l full h =
+    let first = first-behind (roots_of ns ats) k h in
+    let same = roots-behind ns ats k l full in
+    (subst (λ rs. 0 < length rs) (sym same) first.0, ap (λ rs. slice_get rs 0) same ∙ first.1)

@@ -54,13 +54,16 @@ impl Roots {
         self.table.find(name)
     }
 
-    /// The root of an index, counted from 0, in their order. It takes longer after roots were removed, until the
-    /// addresses are next asked for.
+    /// The root of an index, counted from 0, in their order. After roots were removed it takes as long as the index is
+    /// great, until the addresses are next asked for.
     pub fn root_at(&self, k: usize) -> RootAt
         requires { k < length self.now.roots }
         ensures { slice_get self.now.roots k ≡ Some result }
     {
-        nth(&self.table.names, &self.table.addresses, k)
+        if self.table.is_packed() {
+            return nth(&self.table.names, &self.table.addresses, k, 0);
+        }
+        nth(&self.table.names, &self.table.addresses, 0, k)
     }
 
     /// Makes room for a root more.

@@ -1,5 +1,5 @@
 //! The places of the roots, with holes where roots were removed, and an index from names to places.
-ghost use Rattle.std.specs.Prelude.{◌≡◌, ◌+◌, ◌∷◌, ◌++◌, ◌<◌, ◌≤◌, [], ℕ, List, true, false, None, Some, length, take, IfOk, IsOk, OnOk, OnErr, is_some, cond, slice_get, slice_set, vec_len, vec_capacity};
+ghost use Rattle.std.specs.Prelude.{◌≡◌, ◌+◌, ◌∷◌, ◌++◌, ◌<◌, ◌≤◌, [], ℕ, List, true, false, None, Some, length, take, drop, nat_eq, IfOk, IsOk, OnOk, OnErr, is_some, cond, slice_get, slice_set, vec_len, vec_capacity};
 ghost use Rattle.std.specs.List.{filter};
 ghost use Rattle.indexmap.specs.IndexMap.{get, spare, index_map_len};
 ghost use Rattle.class_layout.specs.Names.{same_name};
@@ -133,6 +133,14 @@ impl Table {
         true
     }
 
+    /// Whether no place is a hole.
+    pub fn is_packed(&self) -> bool
+        requires { IsTable self.now }
+        ensures { result ≡ nat_eq (length (roots_in self.now)) (length self.now.names.items) }
+    {
+        self.index.len() == self.names.len()
+    }
+
     /// Moves the roots together where there are holes.
     pub fn settle(&mut self)
         requires { IsTable self.old }
@@ -141,7 +149,7 @@ impl Table {
         ensures ready { self.new.ready ≡ self.old.ready }
         ensures table { IsTable self.new }
     {
-        if self.index.len() == self.names.len() {
+        if self.is_packed() {
             return;
         }
         pack(&self.names, &mut self.addresses);
@@ -202,14 +210,14 @@ fn renumber(index: &mut IndexMap<Name, usize>, names: &[Option<Name>])
     }
 }
 
-// The root of an index, counted without the holes.
-pub(crate) fn nth(names: &[Option<Name>], addresses: &[Addr], k: usize) -> RootAt
+// The root of an index among those from a place on, counted without the holes.
+pub(crate) fn nth(names: &[Option<Name>], addresses: &[Addr], from: usize, k: usize) -> RootAt
     requires long { length names.now ≡ length addresses.now }
-    requires within { k < length (roots_of names.now addresses.now) }
-    ensures { slice_get (roots_of names.now addresses.now) k ≡ Some result }
+    requires within { k < length (roots_of (drop from names.now) (drop from addresses.now)) }
+    ensures { slice_get (roots_of (drop from names.now) (drop from addresses.now)) k ≡ Some result }
 {
     let mut left = k;
-    let mut place = 0;
+    let mut place = from;
     loop {
         if let Some(name) = &names[place] {
             if left == 0 {

@@ -6,7 +6,7 @@ use Rattle.root_list.proofs.table.nth.Given as goal
 abbrev pub invariant-loop-place : goal.invariant-loop-place
 invariant-loop-place l = record {
   within : l.left < length (roots_of (drop l.place l.fn.names) (drop l.place l.fn.addresses));
-  same : slice_get (roots_of (drop l.place l.fn.names) (drop l.place l.fn.addresses)) l.left ≡ slice_get (roots_of l.fn.names l.fn.addresses) l.fn.k;
+  same : slice_get (roots_of (drop l.place l.fn.names) (drop l.place l.fn.addresses)) l.left ≡ slice_get (roots_of (drop l.fn.from l.fn.names) (drop l.fn.from l.fn.addresses)) l.fn.k;
 }
 
 abbrev pub decreases-loop-place : goal.decreases-loop-place
