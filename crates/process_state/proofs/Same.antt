@@ -34,9 +34,9 @@ graph-seen cs v w table os same h = record {
   apart = h.apart;
 }
 
-pages-seen : (old new : Memory) (t : ℕ) (homes : Homes) (g : Graph) → ((q : ℕ) → page_at new t q ≡ page_at old t q) → PagesHold old t homes g → PagesHold new t homes g
-pages-seen old new t homes g same h = record {
-  objects = graph-seen g.classes (view_of old t) (view_of new t) (table_of homes g) g.objects (SameView-pages old new t t same) h.objects;
+pub pages-seen : (old new : Memory) (t u : ℕ) (homes : Homes) (g : Graph) → ((q : ℕ) → page_at new u q ≡ page_at old t q) → PagesHold old t homes g → PagesHold new u homes g
+pages-seen old new t u homes g same h = record {
+  objects = graph-seen g.classes (view_of old t) (view_of new u) (table_of homes g) g.objects (SameView-pages old new t u same) h.objects;
   pages = λ w p is. ap is_some (same p) ∙ h.pages w p is;
 }
 
@@ -52,7 +52,7 @@ module _ (s : State) (p : Part) (old new : Memory) (h : StandsIn s old p) (same 
 
   heap-same : IsSound new → HoldsHeap (heap_of s []) new s.page_table p.graph
   heap-same sound =
-      let pages = pages-seen old new s.page_table (homes_of (heap_of s [])) p.graph same.pages h.heap.pages in
+      let pages = pages-seen old new s.page_table s.page_table (homes_of (heap_of s [])) p.graph same.pages h.heap.pages in
       let few : space.AreAlone new s.page_table (filled (lists_of s.regions)) = λ q is. same.alone q (or_left (regions q || rows q) (image q) (or_left (regions q) (rows q) is)) (h.heap.regions q is) in
       let big : large.AreAlone new s.page_table (filter waits s.rows) =
       λ q is. same.alone q (or_left (regions q || rows q) (image q) (or_right (regions q) (rows q) is)) (h.heap.large q is) in

@@ -2,11 +2,12 @@
 ghost use Rattle.std.specs.Prelude.{◌≡◌, ◌≢◌, ℕ, List, true, None};
 ghost use Rattle.page_tables.specs.declared.address.Addr.{Addr};
 ghost use Rattle.cow_pages.specs.Change.{ChangesTable};
-ghost use Rattle.cow_pages.specs.Memory.{page_at, IsSound, Memory};
+ghost use Rattle.cow_pages.specs.Memory.{is_live, page_at, IsSound, Memory};
 ghost use Rattle.cow_pages.specs.Only.{OnlyTable};
 ghost use Rattle.heap_graph.specs.declared.names.Held.{Held};
 ghost use Rattle.heap_graph.specs.Graph.{drop_root, write_root};
 ghost use Rattle.heap_world.specs.declared.reply.Reply.TheVariants.{Done};
+ghost use Rattle.heap_graph.specs.Fork.{child_of};
 ghost use Rattle.heap_world.specs.Part.{Part};
 ghost use Rattle.heap_world.specs.Acts.{fork_part};
 ghost use Rattle.heap_world.specs.Sound as world;
@@ -30,10 +31,13 @@ pub fn uncounted_changes_leave_it_standing()
     ensures { (s : State) (p : Part) (old new : Memory) → StandsIn s old p → new ≡ record old { reads = new.reads; frames = new.frames; leaf_count = new.leaf_count; spare = new.spare } → IsSound new → StandsIn s new p }
 {}
 
-/// A process that promoted all its objects has no page that it needs alone: it stands where a table was added that has its pages.
+/// A process that promoted all its objects has no page that it needs alone: it stands where a table was added that has its
+/// pages, and with that table so does its child, which has the same state but was never dumped.
 pub fn forked_processes_stand()
     ensures parent { (s : State) (p : Part) (old new : Memory) (u : ℕ) → (fork_part p).reply ≡ Done → p.graph.sealed ≡ true → StandsIn s old (fork_part p).part → u ≢ s.page_table → ChangesTable old new u
         → ((q : ℕ) → page_at new u q ≡ page_at old s.page_table q) → IsSound new → StandsIn s new (fork_part p).part }
+    ensures child { (s : State) (p : Part) (old new : Memory) (u : ℕ) → (fork_part p).reply ≡ Done → p.graph.sealed ≡ true → StandsIn s old (fork_part p).part → is_live new u ≡ true
+        → ((q : ℕ) → page_at new u q ≡ page_at old s.page_table q) → IsSound new → StandsIn (record s { page_table = u; dumps = 0 }) new (record (fork_part p).part { graph = child_of (fork_part p).part.graph }) }
 {}
 
 /// A root that is written or dropped leaves all else as it was.

@@ -47,7 +47,7 @@ impl Roots {
         self.table.index.len()
     }
 
-    /// What the root of a name holds, or `None` where no root has the name.
+    /// What the root of a name holds, or `None` where no root has the name. It takes no memory.
     pub fn find(&self, name: &Name) -> Option<Addr>
         ensures { result ≡ held_at self.now.roots name.now }
     {
@@ -55,7 +55,7 @@ impl Roots {
     }
 
     /// The root of an index, counted from 0, in their order. After roots were removed it takes as long as the index is
-    /// great, until the addresses are next asked for.
+    /// great, until the addresses are next asked for. It takes no memory.
     pub fn root_at(&self, k: usize) -> RootAt
         requires { k < length self.now.roots }
         ensures { slice_get self.now.roots k ≡ Some result }
@@ -66,7 +66,7 @@ impl Roots {
         nth(&self.table.names, &self.table.addresses, 0, k)
     }
 
-    /// Makes room for a root more.
+    /// Makes room for a root more. After `AllocError` nothing has changed.
     pub fn reserve(&mut self) -> Result<(), AllocError>
         ensures same { self.new.roots ≡ self.old.roots }
         ensures ready { OnOk result (self.new.ready ≡ true) }
@@ -76,6 +76,7 @@ impl Roots {
     }
 
     /// Writes a root: in its old place, or last. It takes no memory where the root is there, or where room was made for it.
+    /// After `AllocError` nothing has changed.
     pub fn write(&mut self, name: Name, holds: Addr) -> Result<(), AllocError>
         ensures written { OnOk result (self.new.roots ≡ with_root self.old.roots name holds) }
         ensures there { is_root self.old.roots name ≡ true → IsOk result × (self.new.ready ≡ self.old.ready) }
@@ -115,7 +116,7 @@ impl Roots {
         self.table.addresses.as_mut_slice()
     }
 
-    /// Equal roots.
+    /// Equal roots, or `AllocError` where there is no memory for them.
     pub fn copied(&self) -> Result<Roots, AllocError>
         ensures { IfOk result (λ copy. copy.roots ≡ self.now.roots) }
     {
