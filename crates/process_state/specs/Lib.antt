@@ -4,3 +4,4 @@ pub mod Stands
 pub mod Acts
 pub mod Same
 pub mod Slots
+pub mod Collections

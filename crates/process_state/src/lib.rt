@@ -2,10 +2,12 @@
 #![tactic(auto)]
 
 mod acting;
+mod collections;
 mod laws;
 mod slots;
 
 pub use acting::{answers_act, steps_follow_one_another};
+pub use collections::collections_act;
 pub use laws::{
     dropped_roots_stand, forked_processes_stand, others_leave_it_standing,
     uncounted_changes_leave_it_standing, written_roots_stand,
