@@ -8,3 +8,6 @@ pub mod Same
 pub mod Roots
 pub mod Forked
 pub mod Following
+pub mod Pages
+pub mod Leading
+pub mod Collected
