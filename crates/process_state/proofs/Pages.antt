@@ -1,11 +1,11 @@
 -- Where the pages lie that have names: each in its window, and those that stand in no slot of an object that waits.
-use Rattle.std.proofs.Common.{◌≡◌, ◌≢◌, ◌∙◌, ℕ, ◌+◌, ◌<◌, ◌≤◌, Bool, true, false, not, ◌&&◌, List, filter, nat_eq, nat_lt, refl, sym, ap, subst, inl, inr, arith, true≢false}
+use Rattle.std.proofs.Common.{◌≡◌, ◌≢◌, ◌∙◌, ℕ, ◌+◌, ◌<◌, ◌≤◌, Bool, true, false, not, ◌&&◌, List, Some, filter, nat_eq, nat_lt, refl, sym, ap, subst, inl, inr, arith, true≢false}
 use Rattle.std.specs.Prelude.{nat_le}
 use Rattle.std.specs.List.{list_any}
 use Rattle.std.proofs.lemmas.Bool.{and_from, and_parts, eqb-true, false_from_ne_true, le-leb, leb-true, lt-ltb, ltb-true}
 use Rattle.std.proofs.lemmas.List.Elements.{All-contains, All-filter}
 use Rattle.std.proofs.lemmas.Option.{same_Some}
-use Rattle.model_numbers.specs.Numbers.{image_length, page_bytes, zygote_length}
+use Rattle.model_numbers.specs.Numbers.{image_length, large_slot_bytes, page_bytes, zygote_length}
 use Rattle.class_layout.specs.Placing.{IsIn}
 use Rattle.page_tables.specs.declared.address.Window.{Window}
 use Rattle.page_tables.specs.declared.address.Window.TheVariants as window
@@ -18,6 +18,7 @@ use Rattle.heap_graph.specs.Sizes.{parts_for, unrounded}
 use Rattle.heap_world.specs.declared.names.PageName.{PageName}
 use Rattle.heap_world.specs.declared.names.PageName.TheVariants.{Image, Zygote, Large}
 use Rattle.world_laws.specs.Named.{has_page, has_slot, is_named, is_paged, is_promoted, is_waiting, stands}
+use Rattle.image_space.specs.Space.{pages_up_to}
 use Rattle.address_table.specs.Computed.{table_of, Homes}
 use Rattle.region_space.specs.Space.{lists_of}
 use Rattle.large_objects.specs.declared.rows.LargeRow.{LargeRow}
@@ -58,6 +59,13 @@ promoted-immune (place.Zygote spot) e = absurd (true≢false (sym e))
 promoted-immune place.Young e = absurd (true≢false (sym e))
 promoted-immune place.Large e = absurd (true≢false (sym e))
 promoted-immune place.Promoted e = refl
+
+-- a page lies in one slot
+one-slot : (q : ℕ) (row other : LargeRow) → row.bytes ≤ large_slot_bytes → other.bytes ≤ large_slot_bytes → holds_page q row ≡ true → holds_page q other ≡ true → row.slot ≡ other.slot
+one-slot q row other few less one two =
+    let here = and_parts (nat_le (page_of (slot_base row.slot)) q) (nat_lt q (page_of (slot_base row.slot) + pages_up_to row.bytes)) one in
+    let there = and_parts (nat_le (page_of (slot_base other.slot)) q) (nat_lt q (page_of (slot_base other.slot) + pages_up_to other.bytes)) two in
+    omega (arith, leb-true _ _ here.0, ltb-true _ _ here.1, leb-true _ _ there.0, ltb-true _ _ there.1, few, less)
 
 -- the window of a page by its name
 abbrev pub window_named : PageName → Window
@@ -103,7 +111,7 @@ module _ (h : HeapState) (m : Memory) (t : ℕ) (g : Graph) (held : HoldsHeap h 
       let number : x.number ≡ n = eqb-true x.number n parts.0 in
       let address : table n ≡ slot_base row.slot = ap table (sym number) ∙ to.at_is in
       let from : page_of (slot_base row.slot) ≤ page_of (table n) + k = omega (arith, address) in
-      let before : page_of (table n) + k < page_of (slot_base row.slot) + (row.bytes + 4095) / 4096 = omega (arith, address, ltb-true k count inner.1) in
+      let before : page_of (table n) + k < page_of (slot_base row.slot) + pages_up_to row.bytes = omega (arith, address, ltb-true k count inner.1) in
       record {
         row = row;
         is_in = subst (IsIn row) (sym held.stands.rows) to.there;
@@ -135,9 +143,7 @@ module _ (h : HeapState) (m : Memory) (t : ℕ) (g : Graph) (held : HoldsHeap h 
       let it = any-from (holds_page q) (filter waits h.rows) is in
       let other : LargeRow = it.0 in
       let from = in-filter waits h.rows other it.1 in
-      let one = and_parts _ _ holds in
-      let two = and_parts _ _ it.2 in
-      let slot : row.slot ≡ other.slot = omega (arith, leb-true _ _ one.0, ltb-true _ _ one.1, leb-true _ _ two.0, ltb-true _ _ two.1, (bytes-of row there).most, (bytes-of other from.0).most) in
+      let slot : row.slot ≡ other.slot = one-slot q row other (bytes-of row there).most (bytes-of other from.0).most holds it.2 in
       let same : row ≡ other = same_Some row other (sym (slot-found row there) ∙ ap (λ n. row_at h.rows (slot_base n)) slot ∙ slot-found other from.0) in
       true≢false (sym from.1 ∙ ap waits (sym same) ∙ ap not promoted))
 
@@ -145,8 +151,8 @@ module _ (h : HeapState) (m : Memory) (t : ℕ) (g : Graph) (held : HoldsHeap h 
 
   module _ (image_fits : image_fill g ≤ image_length) (zygote_fits : zygote_fill g ≤ zygote_length) where
     pub named-window : (a : PageName) → is_named g a ≡ true → is_in (window_named a) (page_named (table_of (homes_of h) g) a) ≡ true
-    named-window (Image k) is = window-in window.Image _ (omega arith) (omega (arith, ltb-true k _ is, image_fits))
-    named-window (Zygote k) is = window-in window.Zygote _ (omega arith) (omega (arith, ltb-true k _ is, zygote_fits))
+    named-window (Image k) is = window-in window.Image (page_named (table_of (homes_of h) g) (Image k)) (omega arith) (omega (arith, ltb-true k (parts_for page_bytes (image_fill g)) is, image_fits))
+    named-window (Zygote k) is = window-in window.Zygote (page_named (table_of (homes_of h) g) (Zygote k)) (omega arith) (omega (arith, ltb-true k (parts_for page_bytes (zygote_fill g)) is, zygote_fits))
     named-window (Large n k) is = let it = row-of-page has_slot (λ at e. e) n k is in row-window _ it.row it.is_in it.holds
 
     pub named-beside : (a : PageName) → is_named g a ≡ true → is_in window.Regions (page_named (table_of (homes_of h) g) a) ≡ false
@@ -158,8 +164,8 @@ module _ (h : HeapState) (m : Memory) (t : ℕ) (g : Graph) (held : HoldsHeap h 
         apart (Large n k) e = cc
 
     pub stands-apart : (a : PageName) → stands g a ≡ true → list_any (holds_page (page_named (table_of (homes_of h) g) a)) (filter waits h.rows) ≡ false
-    stands-apart (Image k) is = none-waits _ (apart-window window.Image window.Large _ (λ e. cc) (named-window (Image k) is))
-    stands-apart (Zygote k) is = none-waits _ (apart-window window.Zygote window.Large _ (λ e. cc) (named-window (Zygote k) is))
+    stands-apart (Image k) is = none-waits (page_named table (Image k)) (apart-window window.Image window.Large (page_named table (Image k)) (λ e. cc) (named-window (Image k) is))
+    stands-apart (Zygote k) is = none-waits (page_named table (Zygote k)) (apart-window window.Zygote window.Large (page_named table (Zygote k)) (λ e. cc) (named-window (Zygote k) is))
     stands-apart (Large n k) is =
         let it = row-of-page is_promoted promoted-slot n k is in promoted-apart _ it.row it.is_in (it.promoted ∙ promoted-immune it.at it.here) it.holds
 
