@@ -1,11 +1,10 @@
 -- A process that is collected: it stands for its part with the collected graph, and pages keep their frames.
-use Rattle.std.proofs.Common.{◌≡◌, ◌∙◌, ◌⊎◌, ℕ, ◌+◌, ◌≤◌, Bool, true, false, ◌||◌, ◌++◌, List, [], ◌∷◌, Option, None, Some, filter, length, map, nat_eq, is_some, option_map, refl, sym, ap, subst, inl, inr, arith, true≢false}
+use Rattle.std.proofs.Common.{◌≡◌, ◌∙◌, ◌⊎◌, ℕ, ◌+◌, ◌≤◌, Bool, true, false, List, [], Option, None, Some, filter, length, nat_eq, is_some, option_map, refl, sym, ap, subst, inl, inr, arith, true≢false}
 use Rattle.std.specs.Prelude.{IsTrue}
-use Rattle.std.specs.List.{list_any, AllByRecursion}
+use Rattle.std.specs.List.{list_any}
 use Rattle.std.proofs.lemmas.Bool.{and_from, and_parts, cases_Bool, eqb-true, or_cases, or_from, or_left}
 use Rattle.model_numbers.specs.Numbers.{image_length, zygote_length}
 use Rattle.card_table.specs.CardSet.{card_of}
-use Rattle.class_layout.specs.Placing.{IsIn}
 use Rattle.page_tables.specs.declared.address.Window.TheVariants as window
 use Rattle.page_tables.specs.Address.{is_in, page_of}
 use Rattle.cow_pages.specs.Memory.{flag_of, frame_at, is_mapped, is_written, Memory, Page}
@@ -22,9 +21,8 @@ use Rattle.heap_world.specs.declared.names.Card.{Card}
 use Rattle.heap_world.specs.declared.names.Card.TheVariants as card
 use Rattle.heap_world.specs.declared.names.PageName.{PageName}
 use Rattle.heap_world.specs.declared.names.PageName.TheVariants.{Image, Zygote, Large}
-use Rattle.heap_world.specs.Acts.{act, gc_if, gc_to}
+use Rattle.heap_world.specs.Acts.{gc_if, gc_to}
 use Rattle.heap_world.specs.Cards.{held_cards, is_card_among, outward_cards}
-use Rattle.heap_world.specs.Cards as world
 use Rattle.heap_world.specs.Pages.{is_touched, promoted_pages}
 use Rattle.heap_world.specs.Part.{with_collected, Part}
 use Rattle.heap_world.specs.Sound.{IsSound}
@@ -47,7 +45,6 @@ use Rattle.large_objects.specs.Pages.{holds_page}
 use Rattle.large_objects.specs.Rows as large
 use Rattle.graph_pages.specs.Pages.{page_named}
 use Rattle.graph_pages.proofs.Lists.{any-from, any-to, filter-in, in-filter, in-map, map-in}
-use Rattle.mod_union.specs.ModUnion.{has_slot_on}
 use Rattle.evacuate.proofs.Left.{same-bool}
 use Rattle.evacuate.proofs.Members.{in-contains}
 use Rattle.evacuate.proofs.Rows.{row-address}
@@ -56,11 +53,11 @@ use Rattle.zygote_compact.proofs.Spots.{collected-spots}
 use Rattle.process_state.specs.Acts.{Acts, Step}
 use Rattle.process_state.specs.Cards.{card_number, has_noted, NotesCards}
 use Rattle.process_state.specs.Collections.{IsCollection}
-use Rattle.process_state.specs.Stands.{is_image_spot, HasCounts, HasFlags, HasImage, StandsIn}
+use Rattle.process_state.specs.Stands.{is_image_spot, HasFlags, StandsIn}
 use Rattle.process_state.specs.State.{addresses_in, heap_of, State}
 use Rattle.process_state.proofs.Counted.{card-has}
 use Rattle.process_state.proofs.Leading.{slot-held, slot-written}
-use Rattle.process_state.proofs.Pages.{named-beside, none-waits, promoted-slot, row-of-page, slot-mapped, stands-apart, waiting-slot, apart-window, named-window}
+use Rattle.process_state.proofs.Pages.{named-beside, promoted-slot, row-of-page, slot-mapped, stands-apart, waiting-slot}
 
 written-mapped : (o : Option Page) → flag_of o ≡ true → is_some o ≡ true
 written-mapped None is = absurd (true≢false (sym is))

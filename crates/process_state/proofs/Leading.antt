@@ -1,9 +1,9 @@
 -- The slots with which a process is collected: each lies on a card that holds what isn't immune, and on a page that was written.
-use Rattle.std.proofs.Common.{◌≡◌, ◌∙◌, ◌⊎◌, ℕ, ◌+◌, ◌≤◌, Bool, true, false, not, List, [], nat_eq, refl, sym, ap, subst, inl, inr, arith, true≢false}
-use Rattle.std.specs.Prelude.{nat_le, IsTrue}
+use Rattle.std.proofs.Common.{◌≡◌, ◌∙◌, ◌⊎◌, ℕ, Bool, true, false, not, List, [], refl, sym, ap, subst, inl, inr, arith, true≢false}
+use Rattle.std.specs.Prelude.{nat_le}
 use Rattle.std.proofs.lemmas.Bool.{and_parts, ltb-true}
 use Rattle.std.proofs.lemmas.Option.{same_Some}
-use Rattle.model_numbers.specs.Numbers.{image_base, image_length, least_large, zygote_base}
+use Rattle.model_numbers.specs.Numbers.{least_large}
 use Rattle.card_table.specs.CardSet.{card_of}
 use Rattle.class_layout.specs.declared.kind.FieldAt.{FieldAt}
 use Rattle.class_layout.specs.declared.kind.Kind.{Kind}
@@ -18,7 +18,7 @@ use Rattle.heap_graph.specs.declared.names.Place.TheVariants as place
 use Rattle.heap_graph.specs.declared.names.Shape.{Shape}
 use Rattle.heap_graph.specs.declared.names.Shape.TheVariants.{Array, Instance}
 use Rattle.heap_graph.specs.Formed.{is_in_image, SuitsShape}
-use Rattle.heap_graph.specs.Graph.{image_fill, is_immune, Graph, Object}
+use Rattle.heap_graph.specs.Graph.{is_immune, Graph, Object}
 use Rattle.heap_graph.specs.Places.{places_of}
 use Rattle.heap_graph.specs.Sizes.{is_large, unrounded}
 use Rattle.heap_graph.proofs.Places.{bytes-low, place-slot, stored-slot}

@@ -1,9 +1,9 @@
 -- Where the pages lie that have names: each in its window, and those that stand in no slot of an object that waits.
-use Rattle.std.proofs.Common.{◌≡◌, ◌≢◌, ◌∙◌, ℕ, ◌+◌, ◌<◌, ◌≤◌, Bool, true, false, not, ◌&&◌, List, Some, filter, nat_eq, nat_lt, refl, sym, ap, subst, inl, inr, arith, true≢false}
+use Rattle.std.proofs.Common.{◌≡◌, ◌≢◌, ◌∙◌, ℕ, ◌+◌, ◌<◌, ◌≤◌, Bool, true, false, not, ◌&&◌, Some, filter, nat_eq, nat_lt, refl, sym, ap, subst, arith, true≢false}
 use Rattle.std.specs.Prelude.{nat_le}
 use Rattle.std.specs.List.{list_any}
 use Rattle.std.proofs.lemmas.Bool.{and_from, and_parts, eqb-true, false_from_ne_true, le-leb, leb-true, lt-ltb, ltb-true}
-use Rattle.std.proofs.lemmas.List.Elements.{All-contains, All-filter}
+use Rattle.std.proofs.lemmas.List.Elements.{All-contains}
 use Rattle.std.proofs.lemmas.Option.{same_Some}
 use Rattle.model_numbers.specs.Numbers.{image_length, large_slot_bytes, page_bytes, zygote_length}
 use Rattle.class_layout.specs.Placing.{IsIn}
