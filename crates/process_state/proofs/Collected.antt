@@ -247,7 +247,7 @@ module _ (s : State) (roots : List RootAt) (objects : ℕ) (rows : List LargeRow
     noted : (d : Card) → has_noted next d ≡ true → is_card_among (held_cards g) d ≡ true
     noted d is =
         let has : has_noted s d ≡ true = sym (noted-same d) ∙ is in
-        let it = any-from (λ (slot : Slot). nat_eq (card_number d) (card_of slot.at.0)) slots (sym (c.noted d) ∙ has) in
+        let it = any-from (λ (slot : Slot). nat_eq (card_number d) (card_of slot.at.0)) slots (c.noted d has) in
         slot-held s was p k sealed slots it.0 ((c.keeps.out.exact it.0).0 it.1) d (within d has) (eqb-true (card_number d) (card_of it.0.at.0) it.2)
 
     cards : NotesCards next (with_collected p left)
