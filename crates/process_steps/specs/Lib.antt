@@ -1,0 +1,9 @@
+pub mod Kept
+pub mod Quiet
+pub mod Settling
+pub mod First
+pub mod Promoting
+pub mod Storing
+pub mod Placing
+pub mod Counting
+pub mod Finding
