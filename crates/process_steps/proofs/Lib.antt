@@ -1,1 +1,4 @@
 pub mod Forking
+pub mod Settled
+pub mod Promoted
+pub mod Promotion
