@@ -66,8 +66,13 @@ pages-promoted cs slots at k (o ∷ os) = by o.place (λ j a. pages-promoted cs 
     one : (a j : ℕ) (x : Object) → page_sum (rows_from cs slots j (promoted_from cs a os)) ≡ length (flat_map (λ o. pages_if_promoted cs o o.place) (promoted_from cs a os))
         → page_sum (row_of cs slots k x true ∷ rows_from cs slots j (promoted_from cs a os)) ≡ length (large_pages cs x ++ flat_map (λ o. pages_if_promoted cs o o.place) (promoted_from cs a os))
     one a j x rest =
-        omega (arith, rest, sum_by-cons (λ (n : ℕ). n) (pages_up_to (unrounded cs x.shape)) (map (λ (row : LargeRow). pages_up_to row.bytes) (rows_from cs slots j (promoted_from cs a os))),
-          length-append (large_pages cs x) (flat_map (λ o. pages_if_promoted cs o o.place) (promoted_from cs a os)), length-large cs x)
+        omega (
+          arith,
+          rest,
+          sum_by-cons (λ (n : ℕ). n) (pages_up_to (unrounded cs x.shape)) (map (λ (row : LargeRow). pages_up_to row.bytes) (rows_from cs slots j (promoted_from cs a os))),
+          length-append (large_pages cs x) (flat_map (λ o. pages_if_promoted cs o o.place) (promoted_from cs a os)),
+          length-large cs x,
+        )
 
     by : (p : Place) → ((j a : ℕ) → page_sum (rows_from cs slots j (promoted_from cs a os)) ≡ length (flat_map (λ o. pages_if_promoted cs o o.place) (promoted_from cs a os)))
         → page_sum (rows_from cs slots k (promoted_from cs at (record o { place = p } ∷ os))) ≡ length (flat_map (λ o. pages_if_promoted cs o o.place) (promoted_from cs at (record o { place = p } ∷ os)))

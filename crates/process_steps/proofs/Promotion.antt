@@ -1,5 +1,5 @@
 -- A collected process that is promoted: it stands for the promoted part, and pages keep their frames or are its own.
-use Rattle.std.proofs.Common.{◌≡◌, ◌∙◌, ◌⊎◌, ℕ, ◌+◌, ◌-◌, ◌<◌, ◌≤◌, ◌++◌, ◌||◌, Bool, true, false, true≢false, List, [], length, map, nat_eq, refl, sym, ap, subst, inl, inr, arith}
+use Rattle.std.proofs.Common.{◌≡◌, ◌∙◌, ℕ, ◌+◌, ◌-◌, ◌<◌, ◌≤◌, ◌++◌, Bool, true, false, true≢false, List, [], length, refl, sym, ap, subst, inl, inr, arith}
 use Rattle.std.specs.Prelude.{nat_le}
 use Rattle.std.specs.List.{list_any, AllByRecursion}
 use Rattle.std.proofs.lemmas.Bool.{and_from, le-leb, or_right}
@@ -12,7 +12,6 @@ use Rattle.cow_pages.specs.Memory.{frame_at, is_mapped, mapped_in, HasOneSharer,
 use Rattle.cow_pages.proofs.OnlyLemmas.{only-trans}
 use Rattle.heap_graph.specs.Collection.{collect}
 use Rattle.heap_graph.specs.Fork.{has_zygote_room, promoted, promotion_bytes, promotion_start}
-use Rattle.heap_graph.specs.Formed.{IsFormed}
 use Rattle.heap_graph.specs.Graph.{is_immune, zygote_fill, Graph, Object}
 use Rattle.heap_graph.specs.Sizes.{parts_for}
 use Rattle.heap_world.specs.declared.names.Card.{Card}
@@ -21,7 +20,6 @@ use Rattle.heap_world.specs.declared.names.PageName.{PageName}
 use Rattle.heap_world.specs.declared.names.PageName.TheVariants.{Image, Zygote, Large}
 use Rattle.heap_world.specs.declared.reply.Reply.TheVariants.{Done}
 use Rattle.heap_world.specs.Acts.{fork_collected, fork_pages, fork_part}
-use Rattle.heap_world.specs.Cards as world
 use Rattle.heap_world.specs.Pages.{is_touched, promoted_pages}
 use Rattle.heap_world.specs.Part.{with_collected, Part}
 use Rattle.heap_world.specs.Sound.{IsSound}
@@ -46,7 +44,7 @@ use Rattle.graph_pages.specs.Pages.{page_named}
 use Rattle.graph_pages.proofs.Lists.{in-map}
 use Rattle.graph_pages.proofs.Named.{names-mapped}
 use Rattle.object_promotion.specs.Promotes.{in_segment}
-use Rattle.evacuate.specs.Stands.{homes_of, rows_from, HoldsHeap}
+use Rattle.evacuate.specs.Stands.{homes_of, HoldsHeap}
 use Rattle.evacuate.proofs.Members.{in-contains}
 use Rattle.evacuate.proofs.Pages.{large-pages}
 use Rattle.evacuate.proofs.Rows.{row-address}

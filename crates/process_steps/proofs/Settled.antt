@@ -1,5 +1,5 @@
 -- A table whose flags were cleared: what its pages hold, and how they stand.
-use Rattle.std.proofs.Common.{◌≡◌, ◌≢◌, ◌∙◌, ◌⊎◌, ℕ, Bool, true, false, List, [], Option, None, Some, is_some, option_map, refl, sym, ap, inl, inr}
+use Rattle.std.proofs.Common.{◌≡◌, ◌≢◌, ◌∙◌, ◌⊎◌, ℕ, false, List, [], Option, None, Some, is_some, option_map, refl, sym, ap, inl, inr}
 use Rattle.std.specs.Prelude.{IsTrue}
 use Rattle.std.proofs.lemmas.Bool.{cases_eq}
 use Rattle.class_layout.specs.ClassList.{Class}
