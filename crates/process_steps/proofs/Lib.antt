@@ -1,0 +1,3 @@
+pub mod StoredSame
+pub mod StoredPlace
+pub mod Stored
