@@ -1,9 +1,9 @@
 -- A process that stored into an object: it stands for its part with the slot stored, and pages keep their frames.
 use Rattle.std.proofs.Common.{◌≡◌, ◌≢◌, ◌∙◌, ◌⊎◌, ℕ, ◌+◌, ◌≤◌, Bool, true, false, cond, List, [], ◌∷◌, ◌++◌, Option, None, Some, length, nat_eq, is_some, option_map, refl, sym, ap, subst, inl, inr, arith, true≢false}
-use Rattle.std.specs.Prelude.{IsTrue, ◌&&◌, ◌||◌}
+use Rattle.std.specs.Prelude.{◌&&◌, ◌||◌}
 use Rattle.std.specs.List.{AllByRecursion}
 use Rattle.std.proofs.lemmas.Bool.{and_from, and_parts, cases_Bool, cases_eq, eq-eqb, eqb-true, false_from_ne_true, ne_eqb, or_cases, or_left, or_right}
-use Rattle.model_numbers.specs.Numbers.{image_base, image_length, zygote_base, zygote_length}
+use Rattle.model_numbers.specs.Numbers.{image_base, zygote_base}
 use Rattle.card_table.specs.CardSet.{card_of}
 use Rattle.class_layout.specs.declared.kind.FieldAt.{FieldAt}
 use Rattle.class_layout.specs.Kinds.{is_ref}
@@ -125,6 +125,10 @@ module _ (s : State) (image zygote : Notes) (was now : Memory) (p : Part) (o : O
   abbrev page : ℕ
   page = page_of (addresses_in s p.graph o.number + at.offset)
 
+  -- a page name is that of the slot's page
+  abbrev OnSlot : PageName → Type 0
+  OnSlot a = page_named (addresses_in s p.graph) a ≡ page_of (addresses_in s p.graph o.number + at.offset)
+
   formed : IsFormed p.graph
   formed = k.heap.formed
 
@@ -180,7 +184,7 @@ module _ (s : State) (image zygote : Notes) (was now : Memory) (p : Part) (o : O
     -- PAGES
 
     -- a named page is the one that it was
-    page-is : (a : PageName) → page_named (addresses_in s left) a ≡ page_named (addresses_in s p.graph) a
+    page-is : (a : PageName) → page_named (addresses_in s left) a ≡ page_named table a
     page-is a = page-same table (addresses_in s left) (same-table g o.number slot homes) a
 
     written-there : is_written now t page ≡ true
@@ -188,8 +192,8 @@ module _ (s : State) (image zygote : Notes) (was now : Memory) (p : Part) (o : O
 
     -- the slot's page is touched where it stands, and no other page is touched first
     record Touches (touched : List PageName) : Type 0 where
-      pub hit : (a : PageName) → p.graph.sealed ≡ true → stands p.graph a ≡ true → page_named (addresses_in s p.graph) a ≡ page_of (addresses_in s p.graph o.number + at.offset) → is_touched touched a ≡ true
-      pub miss : (a : PageName) → p.graph.sealed ≡ true → stands p.graph a ≡ true → page_named (addresses_in s p.graph) a ≢ page_of (addresses_in s p.graph o.number + at.offset) → is_touched touched a ≡ is_touched p.touched a
+      pub hit : (a : PageName) → p.graph.sealed ≡ true → stands p.graph a ≡ true → OnSlot a → is_touched touched a ≡ true
+      pub miss : (a : PageName) → p.graph.sealed ≡ true → stands p.graph a ≡ true → (OnSlot a → ⊥) → is_touched touched a ≡ is_touched p.touched a
 
     flags-stored : (touched : List PageName) (stored : List Card) → Touches touched → HasFlags next now (record p { graph = left; touched = touched; stored = stored })
     flags-stored touched stored touches = record {
@@ -197,25 +201,25 @@ module _ (s : State) (image zygote : Notes) (was now : Memory) (p : Part) (o : O
       waiting = λ a waiting. ap (is_written now t) (page-is a) ∙ keeps.written (page_named table a) (k.flags.waiting a (did-wait g o.number slot formed a waiting));
     }
       where
-        flag : (a : PageName) → p.graph.sealed ≡ true → stands p.graph a ≡ true → is_written now t (page_named (addresses_in s p.graph) a) ≡ is_touched touched a
+        flag : (a : PageName) → p.graph.sealed ≡ true → stands p.graph a ≡ true → is_written now t (page_named table a) ≡ is_touched touched a
         flag a sealed standing = elim (cases_eq (page_named table a) page) [
           | inl e ↦ ap (is_written now t) e ∙ written-there ∙ sym (touches.hit a sealed standing e)
           | inr ne ↦ ap flag_of (other (page_named table a) ne) ∙ k.flags.touched a sealed standing ∙ sym (touches.miss a sealed standing ne)
         ]
 
     -- a named page keeps its frame where that of the slot has one alone
-    frame-stays : (a : PageName) → is_named left a ≡ true → (is_named p.graph a ≡ true → page_named (addresses_in s p.graph) a ≡ page_of (addresses_in s p.graph o.number + at.offset) → HasOneSharer was t page)
-        → frame_at now t (page_named (addresses_in s left) a) ≡ frame_at was t (page_named (addresses_in s p.graph) a)
+    frame-stays : (a : PageName) → is_named left a ≡ true → (is_named p.graph a ≡ true → OnSlot a → HasOneSharer was t page)
+        → frame_at now t (page_named (addresses_in s left) a) ≡ frame_at was t (page_named table a)
     frame-stays a named one = ap (frame_at now t) (page-is a) ∙ by (was-named g o.number slot formed a named)
       where
-        by : is_named p.graph a ≡ true → frame_at now t (page_named (addresses_in s p.graph) a) ≡ frame_at was t (page_named (addresses_in s p.graph) a)
+        by : is_named p.graph a ≡ true → frame_at now t (page_named table a) ≡ frame_at was t (page_named table a)
         by before = elim (cases_eq (page_named table a) page) [
           | inl e ↦ keeps.frames (page_named table a) (names-mapped homes g formed k.heap.house was t a k.heap.pages before) (subst (λ q. HasOneSharer was t q) (sym e) (one before e))
           | inr ne ↦ ap (option_map (λ (it : Page). it.frame)) (other (page_named table a) ne)
         ]
 
     -- it has, where the page waits, isn't sealed, or is touched already
-    sharer : (a : PageName) → is_named p.graph a ≡ true → page_named (addresses_in s p.graph) a ≡ page_of (addresses_in s p.graph o.number + at.offset)
+    sharer : (a : PageName) → is_named p.graph a ≡ true → OnSlot a
         → (p.graph.sealed ≡ true → stands p.graph a ≡ true → is_touched p.touched a ≡ false → ⊥) → HasOneSharer was t page
     sharer a named e touched = subst (λ q. HasOneSharer was t q) e (elim (or_cases (stands g a) (waits g a) (sym (named_both g a) ∙ named)) [
       | inr waiting ↦ k.heap.sound.written_alone t (page_named table a) (k.flags.waiting a waiting)
@@ -232,10 +236,10 @@ module _ (s : State) (image zygote : Notes) (was now : Memory) (p : Part) (o : O
     -- CARDS
 
     abbrev may_image : Bool
-    may_image = is_ref at.kind && (s.sealed && is_in window.Image (page_of (addresses_in s p.graph o.number + at.offset)))
+    may_image = is_ref at.kind && (s.sealed && is_in window.Image page)
 
     abbrev may_zygote : Bool
-    may_zygote = is_ref at.kind && is_in window.Zygote (page_of (addresses_in s p.graph o.number + at.offset))
+    may_zygote = is_ref at.kind && is_in window.Zygote page
 
     image-parts : may_image ≡ true → (is_ref at.kind ≡ true) × (p.graph.sealed ≡ true) × (is_in window.Image page ≡ true)
     image-parts dirties =
@@ -250,10 +254,10 @@ module _ (s : State) (image zygote : Notes) (was now : Memory) (p : Part) (o : O
     outward-ref : IsFormed left → is_outward p.graph v ≡ true → is_ref at.kind ≡ true
     outward-ref after = by v fits
       where
-        after-in : IsIn (record o { slots = with_stored o.slots (record { at = at; value = v }) }) left.objects
+        after-in : IsIn (record o { slots = with_stored o.slots slot }) left.objects
         after-in = subst (λ b. IsIn (stored_in_if b o slot) left.objects) (eq-eqb o.number o.number refl) (map-in (λ (x : Object). stored_in_if (nat_eq x.number o.number) x slot) g.objects o is.stands)
 
-        value : value_at (with_stored o.slots (record { at = at; value = v })) at ≡ v
+        value : value_at (with_stored o.slots slot) at ≡ v
         value = value_at-stored o.slots slot at ∙ ap (λ b. cond b v (value_at o.slots at)) (eq-eqb at.offset at.offset refl)
 
         fits : FitsKind at.kind v
@@ -291,8 +295,8 @@ module _ (s : State) (image zygote : Notes) (was now : Memory) (p : Part) (o : O
     -- the stored cards have those that were noted, and that of the slot
     record Stores (stored : List Card) : Type 0 where
       pub more : (d : Card) → world.is_noted p.stored p.held d ≡ true → world.is_noted stored p.held d ≡ true
-      pub in_image : may_image ≡ true → (j : ℕ) → card_of image_base + j ≡ card_of (addresses_in s p.graph o.number + at.offset) → world.is_noted stored p.held (card.Image j) ≡ true
-      pub in_zygote : may_zygote ≡ true → (j : ℕ) → card_of zygote_base + j ≡ card_of (addresses_in s p.graph o.number + at.offset) → world.is_noted stored p.held (card.Zygote j) ≡ true
+      pub in_image : may_image ≡ true → (j : ℕ) → card_of image_base + j ≡ card_of spot → world.is_noted stored p.held (card.Image j) ≡ true
+      pub in_zygote : may_zygote ≡ true → (j : ℕ) → card_of zygote_base + j ≡ card_of spot → world.is_noted stored p.held (card.Zygote j) ≡ true
 
     cards-stored : IsFormed left → (touched : List PageName) (stored : List Card) → Stores stored → NotesCards next (record p { graph = left; touched = touched; stored = stored })
     cards-stored after touched stored stores = record {
@@ -351,17 +355,17 @@ module _ (s : State) (image zygote : Notes) (was now : Memory) (p : Part) (o : O
       stands = stands-stored p.touched p.stored kept
           (record { hit = λ a sealed standing e. absurd (none a sealed standing e); miss = λ a sealed standing ne. refl })
           (record {
-        more = λ d has. has;
-        in_image = λ dirties j e. absurd (true≢false (sym (image-immune s was p k o at is.stands is.slot (image-parts dirties).1 (image-parts dirties).2) ∙ loose));
-        in_zygote = λ dirties j e. absurd (true≢false (sym (zygote-immune s was p k o at is.stands is.slot (zygote-parts dirties).1) ∙ loose));
-      });
+            more = λ d has. has;
+            in_image = λ dirties j e. absurd (true≢false (sym (image-immune s was p k o at is.stands is.slot (image-parts dirties).1 (image-parts dirties).2) ∙ loose));
+            in_zygote = λ dirties j e. absurd (true≢false (sym (zygote-immune s was p k o at is.stands is.slot (zygote-parts dirties).1) ∙ loose));
+          });
       page_table = refl;
       only = one-table was now t (nat_eq page) keeps;
       kept = λ a named quiet. frame-stays a named (λ before e. sharer a before e (λ sealed standing untouched. none a sealed standing e));
       made = λ a named made. absurd (true≢false (sym made));
     }
       where
-        none : (a : PageName) → p.graph.sealed ≡ true → stands p.graph a ≡ true → page_named (addresses_in s p.graph) a ≡ page_of (addresses_in s p.graph o.number + at.offset) → ⊥
+        none : (a : PageName) → p.graph.sealed ≡ true → stands p.graph a ≡ true → OnSlot a → ⊥
         none a sealed standing e = loose-page s was p k o at is.stands is.slot sealed loose a standing e
 
     -- into an immune object, whose page is touched, and its card noted where a reference was stored
@@ -376,7 +380,7 @@ module _ (s : State) (image zygote : Notes) (was now : Memory) (p : Part) (o : O
       the-page = named-page s was p k o at is.stands is.slot immune
 
       -- the name of the slot's page is its alone
-      is-page : (a : PageName) → stands p.graph a ≡ true → page_named (addresses_in s p.graph) a ≡ page_of (addresses_in s p.graph o.number + at.offset) → a ≡ the-page.name
+      is-page : (a : PageName) → stands p.graph a ≡ true → OnSlot a → a ≡ the-page.name
       is-page a standing e =
           names-differ homes g formed k.heap.house a the-page.name (named_both g a ∙ or_left (stands g a) (waits g a) standing)
           (named_both g the-page.name ∙ or_left (stands g the-page.name) (waits g the-page.name) the-page.standing) (e ∙ sym the-page.at_is)
@@ -385,10 +389,10 @@ module _ (s : State) (image zygote : Notes) (was now : Memory) (p : Part) (o : O
       missed true n a ne = refl
       missed false n a ne = ap (λ b. b || is_touched p.touched a) (false_from_ne_true (same_page a n) (λ e. ne (bounds.page-same a n e)))
 
-      touches : Touches (first_touch p.touched (page_in o o.place at.offset) ++ p.touched)
+      touches : Touches (first ++ p.touched)
       touches = record {
         hit = λ a sealed standing e.
-            subst (λ b. is_touched (first_touch p.touched (page_in o o.place at.offset) ++ p.touched) b ≡ true) (sym (is-page a standing e))
+            subst (λ b. is_touched (first ++ p.touched) b ≡ true) (sym (is-page a standing e))
             (subst (λ q. is_touched (first_touch p.touched q ++ p.touched) the-page.name ≡ true) (sym the-page.page) (touch_has p.touched the-page.name));
         miss = λ a sealed standing ne.
             subst (λ q. is_touched (first_touch p.touched q ++ p.touched) a ≡ is_touched p.touched a) (sym the-page.page)
@@ -396,12 +400,12 @@ module _ (s : State) (image zygote : Notes) (was now : Memory) (p : Part) (o : O
       }
 
       -- where it was untouched it is touched first
-      touched-first : (a : PageName) → stands p.graph a ≡ true → page_named (addresses_in s p.graph) a ≡ page_of (addresses_in s p.graph o.number + at.offset)
-          → is_touched p.touched a ≡ false → is_touched (first_touch p.touched (page_in o o.place at.offset)) a ≡ true
+      touched-first : (a : PageName) → stands p.graph a ≡ true → OnSlot a
+          → is_touched p.touched a ≡ false → is_touched first a ≡ true
       touched-first a standing e untouched =
           let same : a ≡ the-page.name = is-page a standing e in
           let none : is_touched p.touched the-page.name ≡ false = ap (is_touched p.touched) (sym same) ∙ untouched in
-          subst (λ b. is_touched (first_touch p.touched (page_in o o.place at.offset)) b ≡ true) (sym same)
+          subst (λ b. is_touched first b ≡ true) (sym same)
           (subst (λ q. is_touched (first_touch p.touched q) the-page.name ≡ true) (sym the-page.page)
           (subst (λ b. is_touched (first_if b the-page.name) the-page.name ≡ true) (sym none) (or_left (same_page the-page.name the-page.name) false (page-refl the-page.name))))
 

@@ -1,6 +1,6 @@
 -- Where a slot of an object lies: its page, the name of that page, and its card.
-use Rattle.std.proofs.Common.{◌≡◌, ◌≢◌, ◌∙◌, ℕ, ◌+◌, ◌-◌, ◌*◌, ◌/◌, ◌<◌, ◌≤◌, Bool, true, false, cond, not, List, [], ◌∷◌, Option, None, Some, filter, nat_eq, refl, sym, ap, subst, inl, inr, arith, true≢false}
-use Rattle.std.specs.List.{find, list_any, AllByRecursion}
+use Rattle.std.proofs.Common.{◌≡◌, ◌≢◌, ◌∙◌, ℕ, ◌+◌, ◌-◌, ◌/◌, ◌<◌, true, false, cond, not, List, [], ◌∷◌, Some, filter, nat_eq, refl, sym, ap, subst, inl, inr, arith, true≢false}
+use Rattle.std.specs.List.{find, AllByRecursion}
 use Rattle.std.proofs.lemmas.Option.{none-some, same_Some}
 use Rattle.world_laws.specs.Named as named
 use Rattle.page_tables.specs.declared.address.Window.{Window}
@@ -35,7 +35,6 @@ use Rattle.world_laws.proofs.StandingObjects.{all_in, object_stands}
 use Rattle.object_view.proofs.Laid.{size-bounds}
 use Rattle.address_table.specs.Computed.{Homes}
 use Rattle.address_table.proofs.Behind.{rising-in}
-use Rattle.large_objects.specs.declared.rows.LargeRow.{LargeRow}
 use Rattle.large_objects.specs.Pages.{holds_page}
 use Rattle.large_objects.specs.Rows.{waits}
 use Rattle.graph_pages.specs.Pages.{page_named}
@@ -68,6 +67,13 @@ module _ (s : State) (m : Memory) (p : Part) (k : StandsIn s m p) (o : Object) (
   abbrev homes : Homes
   homes = homes_in s.regions.in_use s.rows
 
+  -- the page and the card of the slot
+  abbrev pub slot_page : ℕ
+  slot_page = page_of (addresses_in s p.graph o.number + at.offset)
+
+  abbrev pub slot_card : ℕ
+  slot_card = card_of (addresses_in s p.graph o.number + at.offset)
+
   abbrev StandsAt : Place → ℕ → Type 0
   StandsAt q address = Stand (homes_in s.regions.in_use s.rows) p.graph k.heap.formed k.heap.house o q address
 
@@ -86,21 +92,21 @@ module _ (s : State) (m : Memory) (p : Part) (k : StandsIn s m p) (o : Object) (
   -- WINDOWS
 
   -- its page lies in the window of the object's place
-  slot-window : is_in (window_of o.place) (page_of (addresses_in s p.graph o.number + at.offset)) ≡ true
+  slot-window : is_in (window_of o.place) slot_page ≡ true
   slot-window =
-      page-in homes p.graph k.heap.formed k.heap.house (lists_of s.regions) k.heap.space k.heap.stands.packed (page_of (table o.number + at.offset)) o there
-      ((bytes-in p.graph.classes table (page_of (table o.number + at.offset)) o).1 (at.offset, within, refl))
+      page-in homes p.graph k.heap.formed k.heap.house (lists_of s.regions) k.heap.space k.heap.stands.packed slot_page o there
+      ((bytes-in p.graph.classes table slot_page o).1 (at.offset, within, refl))
 
   -- so it isn't one of another window
-  off-window : (w : Window) → window_of o.place ≢ w → is_in w (page_of (addresses_in s p.graph o.number + at.offset)) ≡ true → ⊥
-  off-window w apart is = apart (one-window (page_of (table o.number + at.offset)) (window_of o.place) w slot-window is)
+  off-window : (w : Window) → window_of o.place ≢ w → is_in w slot_page ≡ true → ⊥
+  off-window w apart is = apart (one-window slot_page (window_of o.place) w slot-window is)
 
   in-image : p.graph.sealed ≡ false → is_in_image o.place ≡ true
   in-image unsealed = all_in (λ (x : Object). is_in_image x.place ≡ true) p.graph.objects o (k.heap.formed.before_seal unsealed) there
 
   -- before the seal it is one of the image
-  pub unsealed-page : p.graph.sealed ≡ false → is_in window.Image (page_of (addresses_in s p.graph o.number + at.offset)) ≡ true
-  unsealed-page unsealed = subst (λ w. is_in w (page_of (table o.number + at.offset)) ≡ true) (by o.place (in-image unsealed)) slot-window
+  pub unsealed-page : p.graph.sealed ≡ false → is_in window.Image slot_page ≡ true
+  unsealed-page unsealed = subst (λ w. is_in w slot_page ≡ true) (by o.place (in-image unsealed)) slot-window
     where
       by : (q : Place) → is_in_image q ≡ true → window_of q ≡ window.Image
       by (place.Image spot) e = refl
@@ -130,7 +136,7 @@ module _ (s : State) (m : Memory) (p : Part) (k : StandsIn s m p) (o : Object) (
     pub name : PageName
     pub page : page_in o o.place at.offset ≡ Some name
     pub standing : stands p.graph name ≡ true
-    pub at_is : page_named (addresses_in s p.graph) name ≡ page_of (addresses_in s p.graph o.number + at.offset)
+    pub at_is : page_named (addresses_in s p.graph) name ≡ slot_page
 
   at-page : (q : Place) (address : ℕ) → address ≡ addresses_in s p.graph o.number → StandsAt q address → (name : PageName) → page_in o q at.offset ≡ Some name
       → page_named (addresses_in s p.graph) name ≡ page_of (address + at.offset)
@@ -158,13 +164,13 @@ module _ (s : State) (m : Memory) (p : Part) (k : StandsIn s m p) (o : Object) (
   waiting-loose place.Promoted e = absurd (true≢false (sym e))
 
   -- a page that stands has no byte of a large object that waits
-  waiting-page : o.place ≡ place.Large → (a : PageName) → stands p.graph a ≡ true → page_named (addresses_in s p.graph) a ≡ page_of (addresses_in s p.graph o.number + at.offset) → ⊥
+  waiting-page : o.place ≡ place.Large → (a : PageName) → stands p.graph a ≡ true → page_named (addresses_in s p.graph) a ≡ slot_page → ⊥
   waiting-page e a standing same =
       let j : ℕ = at.offset / page_bytes in
       let few : j < parts_for page_bytes (unrounded p.graph.classes o.shape) = omega (arith, below) in
       let it = row-of-page (heap_of s []) m s.page_table p.graph k.heap is_waiting waiting-slot o.number j (has_own is_waiting p.graph.classes p.graph.objects o j there (ap is_waiting e) few) in
       let large : StandsAt place.Large (table o.number) = subst (λ q. StandsAt q (table o.number)) e here in
-      let name : page_of (table o.number) + j ≡ page_of (table o.number + at.offset) = at-page place.Large (table o.number) refl large (Large o.number j) refl in
+      let name : page_of (table o.number) + j ≡ slot_page = at-page place.Large (table o.number) refl large (Large o.number j) refl in
       let stays : waits it.row ≡ true = ap not (it.promoted ∙ waiting-loose it.at it.here) in
       let holds : holds_page (page_named table a) it.row ≡ true = ap (λ q. holds_page q it.row) (same ∙ sym name) ∙ it.holds in
       true≢false (sym (any-to (holds_page (page_named table a)) (filter waits s.rows) it.row (filter-in waits s.rows it.row it.is_in stays) holds)
@@ -172,15 +178,15 @@ module _ (s : State) (m : Memory) (p : Part) (k : StandsIn s m p) (o : Object) (
 
   -- what isn't immune once the process is sealed stands on no page that stands
   pub loose-page : p.graph.sealed ≡ true → is_immune p.graph.sealed o.place ≡ false → (a : PageName) → stands p.graph a ≡ true
-      → page_named (addresses_in s p.graph) a ≡ page_of (addresses_in s p.graph o.number + at.offset) → ⊥
+      → page_named (addresses_in s p.graph) a ≡ slot_page → ⊥
   loose-page sealed loose a standing same =
       by o.place (sym (ap (λ b. is_immune b o.place) sealed) ∙ loose) slot-window (λ e. waiting-page e a standing same)
     where
-      beside : is_in window.Regions (page_of (addresses_in s p.graph o.number + at.offset)) ≡ false
+      beside : is_in window.Regions slot_page ≡ false
       beside = subst (λ q. is_in window.Regions q ≡ false) same
           (named-beside (heap_of s []) m s.page_table p.graph k.heap k.heap.formed.image_fits k.heap.formed.zygote_fits a (named_both p.graph a ∙ or_left (stands p.graph a) (named.waits p.graph a) standing))
 
-      by : (q : Place) → is_immune true q ≡ false → is_in (window_of q) (page_of (addresses_in s p.graph o.number + at.offset)) ≡ true → (q ≡ place.Large → ⊥) → ⊥
+      by : (q : Place) → is_immune true q ≡ false → is_in (window_of q) slot_page ≡ true → (q ≡ place.Large → ⊥) → ⊥
       by (place.Image spot) loose is large = true≢false loose
       by (place.Zygote spot) loose is large = true≢false loose
       by place.Young loose is large = true≢false (sym is ∙ beside)
@@ -191,12 +197,12 @@ module _ (s : State) (m : Memory) (p : Part) (k : StandsIn s m p) (o : Object) (
 
   -- the slot's card, where it lies in the image or in the zygote window
   pub each-card : (P : Card → Type 0)
-      → ((j : ℕ) → is_in window.Image (page_of (addresses_in s p.graph o.number + at.offset)) ≡ true → card_of image_base + j ≡ card_of (addresses_in s p.graph o.number + at.offset) → P (card.Image j))
-      → ((j : ℕ) → is_in window.Zygote (page_of (addresses_in s p.graph o.number + at.offset)) ≡ true → card_of zygote_base + j ≡ card_of (addresses_in s p.graph o.number + at.offset) → P (card.Zygote j))
+      → ((j : ℕ) → is_in window.Image slot_page ≡ true → card_of image_base + j ≡ slot_card → P (card.Image j))
+      → ((j : ℕ) → is_in window.Zygote slot_page ≡ true → card_of zygote_base + j ≡ slot_card → P (card.Zygote j))
       → AllByRecursion P (cards_in o.place at.offset)
   each-card P image zygote = by o.place (table o.number) refl here slot-window
     where
-      by : (q : Place) (address : ℕ) → address ≡ addresses_in s p.graph o.number → StandsAt q address → is_in (window_of q) (page_of (addresses_in s p.graph o.number + at.offset)) ≡ true
+      by : (q : Place) (address : ℕ) → address ≡ addresses_in s p.graph o.number → StandsAt q address → is_in (window_of q) slot_page ≡ true
           → AllByRecursion P (cards_in q at.offset)
       by (place.Image spot) address e h is = (image ((spot + at.offset - image_base) / card_bytes) is (omega (arith, h.0, h.1, e)), tt)
       by (place.Zygote spot) address e h is = (zygote ((spot + at.offset - zygote_base) / card_bytes) is (omega (arith, h.0, h.1, e)), tt)
@@ -204,24 +210,24 @@ module _ (s : State) (m : Memory) (p : Part) (k : StandsIn s m p) (o : Object) (
       by place.Large address e h is = tt
       by place.Promoted address e h is = tt
 
-  pub image-card : is_in window.Image (page_of (addresses_in s p.graph o.number + at.offset)) ≡ true
-      → (j : ℕ) × (cards_in o.place at.offset ≡ card.Image j ∷ []) × (card_of image_base + j ≡ card_of (addresses_in s p.graph o.number + at.offset))
+  pub image-card : is_in window.Image slot_page ≡ true
+      → (j : ℕ) × (cards_in o.place at.offset ≡ card.Image j ∷ []) × (card_of image_base + j ≡ slot_card)
   image-card is = by o.place (table o.number) refl here (λ apart. off-window window.Image apart is)
     where
       by : (q : Place) (address : ℕ) → address ≡ addresses_in s p.graph o.number → StandsAt q address → (window_of q ≢ window.Image → ⊥)
-          → (j : ℕ) × (cards_in q at.offset ≡ card.Image j ∷ []) × (card_of image_base + j ≡ card_of (addresses_in s p.graph o.number + at.offset))
+          → (j : ℕ) × (cards_in q at.offset ≡ card.Image j ∷ []) × (card_of image_base + j ≡ slot_card)
       by (place.Image spot) address e h off = ((spot + at.offset - image_base) / card_bytes, refl, omega (arith, h.0, h.1, e))
       by (place.Zygote spot) address e h off = absurd (off (λ e. cc))
       by place.Young address e h off = absurd (off (λ e. cc))
       by place.Large address e h off = absurd (off (λ e. cc))
       by place.Promoted address e h off = absurd (off (λ e. cc))
 
-  pub zygote-card : is_in window.Zygote (page_of (addresses_in s p.graph o.number + at.offset)) ≡ true
-      → (j : ℕ) × (cards_in o.place at.offset ≡ card.Zygote j ∷ []) × (card_of zygote_base + j ≡ card_of (addresses_in s p.graph o.number + at.offset))
+  pub zygote-card : is_in window.Zygote slot_page ≡ true
+      → (j : ℕ) × (cards_in o.place at.offset ≡ card.Zygote j ∷ []) × (card_of zygote_base + j ≡ slot_card)
   zygote-card is = by o.place (table o.number) refl here (λ apart. off-window window.Zygote apart is)
     where
       by : (q : Place) (address : ℕ) → address ≡ addresses_in s p.graph o.number → StandsAt q address → (window_of q ≢ window.Zygote → ⊥)
-          → (j : ℕ) × (cards_in q at.offset ≡ card.Zygote j ∷ []) × (card_of zygote_base + j ≡ card_of (addresses_in s p.graph o.number + at.offset))
+          → (j : ℕ) × (cards_in q at.offset ≡ card.Zygote j ∷ []) × (card_of zygote_base + j ≡ slot_card)
       by (place.Zygote spot) address e h off = ((spot + at.offset - zygote_base) / card_bytes, refl, omega (arith, h.0, h.1, e))
       by (place.Image spot) address e h off = absurd (off (λ e. cc))
       by place.Young address e h off = absurd (off (λ e. cc))
@@ -229,7 +235,7 @@ module _ (s : State) (m : Memory) (p : Part) (k : StandsIn s m p) (o : Object) (
       by place.Promoted address e h off = absurd (off (λ e. cc))
 
   -- what lies there is immune: in the image once the process is sealed, and in the zygote window
-  pub image-immune : p.graph.sealed ≡ true → is_in window.Image (page_of (addresses_in s p.graph o.number + at.offset)) ≡ true → is_immune p.graph.sealed o.place ≡ true
+  pub image-immune : p.graph.sealed ≡ true → is_in window.Image slot_page ≡ true → is_immune p.graph.sealed o.place ≡ true
   image-immune sealed is = by o.place (λ apart. off-window window.Image apart is)
     where
       by : (q : Place) → (window_of q ≢ window.Image → ⊥) → is_immune p.graph.sealed q ≡ true
@@ -239,7 +245,7 @@ module _ (s : State) (m : Memory) (p : Part) (k : StandsIn s m p) (o : Object) (
       by place.Large off = absurd (off (λ e. cc))
       by place.Promoted off = refl
 
-  pub zygote-immune : is_in window.Zygote (page_of (addresses_in s p.graph o.number + at.offset)) ≡ true → is_immune p.graph.sealed o.place ≡ true
+  pub zygote-immune : is_in window.Zygote slot_page ≡ true → is_immune p.graph.sealed o.place ≡ true
   zygote-immune is = by o.place (λ apart. off-window window.Zygote apart is)
     where
       by : (q : Place) → (window_of q ≢ window.Zygote → ⊥) → is_immune p.graph.sealed q ≡ true

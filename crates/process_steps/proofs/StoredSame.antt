@@ -12,7 +12,7 @@ use Rattle.heap_graph.specs.declared.names.Root.{Root}
 use Rattle.heap_graph.specs.declared.names.Stored.{Stored}
 use Rattle.heap_graph.specs.Formed.{IsFormed}
 use Rattle.heap_graph.specs.Graph.{image_fill, is_young, size_of_object, zygote_fill, Graph, Object}
-use Rattle.heap_graph.specs.Packing.{end_from, used, young_objects, young_sizes}
+use Rattle.heap_graph.specs.Packing.{end_from, young_objects, young_sizes}
 use Rattle.heap_graph.specs.Sizes.{parts_for}
 use Rattle.heap_graph.specs.Values.{with_stored}
 use Rattle.heap_world.specs.declared.names.PageName.{PageName}
@@ -147,7 +147,7 @@ module _ (g : Graph) (n : ℕ) (new : Stored) where
     rows = k.rows ∙ sym (rows-stored n new g.classes (homes_in s.regions.in_use s.rows).slots 0 g.objects);
     roots = k.roots
         ∙ map-same (λ (r : Root). root_address (addresses_in s g) r.holds) (λ (r : Root). root_address (addresses_in s h) r.holds) g.roots
-            (λ r there. sym (root-same (addresses_in s g) (addresses_in s h) (same-table (homes_in s.regions.in_use s.rows)) r.holds));
+        (λ r there. sym (root-same (addresses_in s g) (addresses_in s h) (same-table (homes_in s.regions.in_use s.rows)) r.holds));
   }
 
   module _ (formed : IsFormed g) where
