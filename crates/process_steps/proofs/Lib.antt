@@ -1,3 +1,4 @@
 pub mod StoredSame
 pub mod StoredPlace
+pub mod StoredNotes
 pub mod Stored

@@ -1,16 +1,16 @@
 -- A process that stored into an object: it stands for its part with the slot stored, and pages keep their frames.
-use Rattle.std.proofs.Common.{◌≡◌, ◌≢◌, ◌∙◌, ◌⊎◌, ℕ, ◌+◌, ◌≤◌, Bool, true, false, cond, List, [], ◌∷◌, ◌++◌, Option, None, Some, length, nat_eq, is_some, option_map, refl, sym, ap, subst, inl, inr, arith, true≢false}
+use Rattle.std.proofs.Common.{◌≡◌, ◌≢◌, ◌∙◌, ℕ, ◌+◌, ◌≤◌, Bool, true, false, cond, List, [], ◌∷◌, ◌++◌, length, nat_eq, option_map, refl, sym, ap, subst, inl, inr, arith, true≢false}
 use Rattle.std.specs.Prelude.{◌&&◌, ◌||◌}
 use Rattle.std.specs.List.{AllByRecursion}
-use Rattle.std.proofs.lemmas.Bool.{and_from, and_parts, cases_Bool, cases_eq, eq-eqb, eqb-true, false_from_ne_true, ne_eqb, or_cases, or_left, or_right}
+use Rattle.std.proofs.lemmas.Bool.{and_from, and_parts, cases_Bool, cases_eq, eq-eqb, false_from_ne_true, ne_eqb, or_cases, or_left, or_right}
 use Rattle.model_numbers.specs.Numbers.{image_base, zygote_base}
 use Rattle.card_table.specs.CardSet.{card_of}
 use Rattle.class_layout.specs.declared.kind.FieldAt.{FieldAt}
 use Rattle.class_layout.specs.Kinds.{is_ref}
 use Rattle.class_layout.specs.Placing.{IsIn}
 use Rattle.page_tables.specs.declared.address.Window.TheVariants as window
-use Rattle.page_tables.specs.Address.{is_in, is_in_window, page_of}
-use Rattle.cow_pages.specs.Memory.{flag_of, frame_at, is_mapped, is_written, page_at, HasOneSharer, IsSound, Memory, Page}
+use Rattle.page_tables.specs.Address.{is_in, page_of}
+use Rattle.cow_pages.specs.Memory.{flag_of, frame_at, is_written, page_at, HasOneSharer, Memory, Page}
 use Rattle.heap_graph.specs.declared.names.Content.{Content}
 use Rattle.heap_graph.specs.declared.names.Content.TheVariants as content
 use Rattle.heap_graph.specs.declared.names.Stored.{Stored}
@@ -49,49 +49,10 @@ use Rattle.process_state.specs.Stands.{is_image_spot, HasCounts, HasFlags, HasIm
 use Rattle.process_state.specs.State.{addresses_in, heap_of, Notes, State}
 use Rattle.process_state.proofs.Pages.{apart-window}
 use Rattle.process_steps.specs.Kept.{IsKept}
-use Rattle.process_steps.specs.Storing.{DirtiesIf, IsStore}
+use Rattle.process_steps.specs.Storing.{IsStore}
+use Rattle.process_steps.proofs.StoredNotes.{alone-mapped, noted-from, noted-now, noted-stays}
 use Rattle.process_steps.proofs.StoredPlace.{each-card, found-at, image-card, image-immune, immune-sealed, loose-page, named-page, unsealed-page, zygote-card, zygote-immune, NamedPage}
 use Rattle.process_steps.proofs.StoredSame.{any-stored, did-wait, page-same, same-fills, same-house, same-length, same-promoted, same-stands, same-state, same-table, was-named}
-
--- MEMORY
-
-no-frame : (o : Option Page) → is_some o ≡ false → option_map (λ (page : Page). page.frame) o ≡ None
-no-frame None is = refl
-no-frame (Some page) is = absurd (true≢false is)
-
--- no page outside the windows is mapped, so an entry that has its frame alone is
-alone-mapped : (m : Memory) (t q : ℕ) → IsSound m → HasOneSharer m t q → is_mapped m t q ≡ true
-alone-mapped m t q sound alone = elim (cases_Bool (is_mapped m t q)) [
-  | inl is ↦ is
-  | inr none ↦
-      let one : 1048576 ≡ q = (alone t 1048576 (far 1048576 refl ∙ sym (no-frame (page_at m t q) none))).1 in
-      let other : 1048577 ≡ q = (alone t 1048577 (far 1048577 refl ∙ sym (no-frame (page_at m t q) none))).1 in
-      absurd (omega (arith, one, other))
-]
-  where
-    far : (r : ℕ) → is_in_window r ≡ false → frame_at m t r ≡ None
-    far r off = no-frame (page_at m t r) (false_from_ne_true (is_mapped m t r) (λ is. true≢false (sym (sound.in_window t r is) ∙ off)))
-
--- CARDS
-
-module _ (may : Bool) (old new : Notes) (place : ℕ) (d : DirtiesIf may old new place) where
-  -- a noted card is the one that was made dirty, or it was noted before
-  noted-from : (j : ℕ) → is_noted new.records new.cards j ≡ true → ((may ≡ true) × (j ≡ place)) ⊎ (is_noted old.records old.cards j ≡ true)
-  noted-from j has = elim (cases_Bool may) [
-    | inl dirties ↦ elim (or_cases (nat_eq j place) (is_noted old.records old.cards j) (sym (d.noted dirties j) ∙ has)) [ inl e ↦ inl (dirties, eqb-true j place e) | inr was ↦ inr was ]
-    | inr clean ↦ inr (subst (λ (n : Notes). is_noted n.records n.cards j ≡ true) (d.not clean) has)
-  ]
-
-  noted-stays : (j : ℕ) → is_noted old.records old.cards j ≡ true → is_noted new.records new.cards j ≡ true
-  noted-stays j has = elim (cases_Bool may) [
-    | inl dirties ↦ d.noted dirties j ∙ or_right (nat_eq j place) (is_noted old.records old.cards j) has
-    | inr clean ↦ subst (λ (n : Notes). is_noted n.records n.cards j ≡ true) (sym (d.not clean)) has
-  ]
-
-  noted-now : may ≡ true → (j : ℕ) → j ≡ place → is_noted new.records new.cards j ≡ true
-  noted-now dirties j e = d.noted dirties j ∙ or_left (nat_eq j place) (is_noted old.records old.cards j) (eq-eqb j place e)
-
--- A PROCESS
 
 module _ (s : State) (image zygote : Notes) (was now : Memory) (p : Part) (o : Object) (at : FieldAt) (v : Content) (k : StandsIn s was p) where
   abbrev next : State
@@ -133,6 +94,7 @@ module _ (s : State) (image zygote : Notes) (was now : Memory) (p : Part) (o : O
   formed = k.heap.formed
 
   module _ (is : IsStore step p o at v) where
+    -- pages were kept but for that of the slot
     keeps : Keeps was now t (nat_eq page)
     keeps = is.keeps (nat_eq page) (eq-eqb page page refl)
 
@@ -140,9 +102,11 @@ module _ (s : State) (image zygote : Notes) (was now : Memory) (p : Part) (o : O
     other : (q : ℕ) → q ≢ page → page_at now t q ≡ page_at was t q
     other q ne = keeps.others t q (inr (ne_eqb page q (λ e. ne (sym e))))
 
+    -- a page that had its frame alone keeps it alone
     alone-stays : (q : ℕ) → HasOneSharer was t q → HasOneSharer now t q
     alone-stays q one = keeps.alone q (alone-mapped was t q k.heap.sound one) one
 
+    -- what the process keeps for the graph is as before
     heap-stored : IsFormed left → HoldsHeap (heap_of s []) now t left
     heap-stored after = record {
       formed = after;
@@ -187,6 +151,7 @@ module _ (s : State) (image zygote : Notes) (was now : Memory) (p : Part) (o : O
     page-is : (a : PageName) → page_named (addresses_in s left) a ≡ page_named table a
     page-is a = page-same table (addresses_in s left) (same-table g o.number slot homes) a
 
+    -- the slot's page was written
     written-there : is_written now t page ≡ true
     written-there = is.written page (omega arith) (omega arith)
 
@@ -195,6 +160,7 @@ module _ (s : State) (image zygote : Notes) (was now : Memory) (p : Part) (o : O
       pub hit : (a : PageName) → p.graph.sealed ≡ true → stands p.graph a ≡ true → OnSlot a → is_touched touched a ≡ true
       pub miss : (a : PageName) → p.graph.sealed ≡ true → stands p.graph a ≡ true → (OnSlot a → ⊥) → is_touched touched a ≡ is_touched p.touched a
 
+    -- so flags are those of touched pages
     flags-stored : (touched : List PageName) (stored : List Card) → Touches touched → HasFlags next now (record p { graph = left; touched = touched; stored = stored })
     flags-stored touched stored touches = record {
       touched = λ a sealed standing. ap (is_written now t) (page-is a) ∙ flag a sealed (sym (same-stands g o.number slot formed a) ∙ standing);
@@ -235,12 +201,14 @@ module _ (s : State) (image zygote : Notes) (was now : Memory) (p : Part) (o : O
 
     -- CARDS
 
+    -- whether a card of the image, or of the zygote window, was made dirty
     abbrev may_image : Bool
     may_image = is_ref at.kind && (s.sealed && is_in window.Image page)
 
     abbrev may_zygote : Bool
     may_zygote = is_ref at.kind && is_in window.Zygote page
 
+    -- where it was, a reference was stored in that window, for the image after the seal
     image-parts : may_image ≡ true → (is_ref at.kind ≡ true) × (p.graph.sealed ≡ true) × (is_in window.Image page ≡ true)
     image-parts dirties =
         let one = and_parts (is_ref at.kind) _ dirties in
@@ -255,7 +223,9 @@ module _ (s : State) (image zygote : Notes) (was now : Memory) (p : Part) (o : O
     outward-ref after = by v fits
       where
         after-in : IsIn (record o { slots = with_stored o.slots slot }) left.objects
-        after-in = subst (λ b. IsIn (stored_in_if b o slot) left.objects) (eq-eqb o.number o.number refl) (map-in (λ (x : Object). stored_in_if (nat_eq x.number o.number) x slot) g.objects o is.stands)
+        after-in =
+            subst (λ b. IsIn (stored_in_if b o slot) left.objects) (eq-eqb o.number o.number refl)
+            (map-in (λ (x : Object). stored_in_if (nat_eq x.number o.number) x slot) g.objects o is.stands)
 
         value : value_at (with_stored o.slots slot) at ≡ v
         value = value_at-stored o.slots slot at ∙ ap (λ b. cond b v (value_at o.slots at)) (eq-eqb at.offset at.offset refl)
@@ -268,10 +238,12 @@ module _ (s : State) (image zygote : Notes) (was now : Memory) (p : Part) (o : O
         by content.Null fit out = fit
         by (content.Object n) fit out = fit
 
+    -- what was noted stays so
     noted-more : (d : Card) → has_noted s d ≡ true → has_noted next d ≡ true
     noted-more (card.Image j) has = noted-stays may_image s.image_notes image (card_of spot) is.image_notes (card_of image_base + j) has
     noted-more (card.Zygote j) has = noted-stays may_zygote s.zygote_notes zygote (card_of spot) is.zygote_notes (card_of zygote_base + j) has
 
+    -- each card with an outward slot is noted: it had one before, or it is that of the slot
     outward : IsFormed left → AllByRecursion (λ d. has_noted next d ≡ true) (outward_cards left)
     outward after =
         outward-stored (λ d. has_noted s d ≡ true) (λ d. has_noted next d ≡ true) noted-more g o.number slot o formed.numbers (found-at g o formed is.stands)
@@ -283,6 +255,7 @@ module _ (s : State) (image zygote : Notes) (was now : Memory) (p : Part) (o : O
         (λ j inside e. noted-now may_zygote s.zygote_notes zygote (card_of spot) is.zygote_notes (and_from _ _ ref inside) (card_of zygote_base + j) e))
         k.cards.outward
 
+    -- before the seal none was made dirty
     nothing : p.graph.sealed ≡ false → NotesNothing image × NotesNothing zygote
     nothing unsealed = (
       subst NotesNothing (sym (is.image_notes.not (false_from_ne_true may_image (λ dirties. true≢false (sym (image-parts dirties).1 ∙ unsealed))))) (k.cards.before_seal unsealed).0,
@@ -298,6 +271,7 @@ module _ (s : State) (image zygote : Notes) (was now : Memory) (p : Part) (o : O
       pub in_image : may_image ≡ true → (j : ℕ) → card_of image_base + j ≡ card_of spot → world.is_noted stored p.held (card.Image j) ≡ true
       pub in_zygote : may_zygote ≡ true → (j : ℕ) → card_of zygote_base + j ≡ card_of spot → world.is_noted stored p.held (card.Zygote j) ≡ true
 
+    -- so the cards that the process knows of are those of the part
     cards-stored : IsFormed left → (touched : List PageName) (stored : List Card) → Stores stored → NotesCards next (record p { graph = left; touched = touched; stored = stored })
     cards-stored after touched stored stores = record {
       image = record { start = is.image_notes.start ∙ k.cards.image.start; span = is.image_notes.span ∙ k.cards.image.span; behind = image-behind };
@@ -331,6 +305,7 @@ module _ (s : State) (image zygote : Notes) (was now : Memory) (p : Part) (o : O
 
     -- THE WHOLE
 
+    -- it stands for the part after the store
     stands-stored : (touched : List PageName) (stored : List Card) → IsKept (record p { graph = left; touched = touched; stored = stored }) → Touches touched → Stores stored
         → StandsIn next now (record p { graph = left; touched = touched; stored = stored })
     stands-stored touched stored kept touches stores = record {
@@ -376,6 +351,7 @@ module _ (s : State) (image zygote : Notes) (was now : Memory) (p : Part) (o : O
       abbrev cards : List Card
       cards = stored_cards_if (is_ref at.kind) (cards_in o.place at.offset)
 
+      -- the page on which the slot lies
       the-page : NamedPage s was p k o at is.stands is.slot
       the-page = named-page s was p k o at is.stands is.slot immune
 
@@ -389,6 +365,7 @@ module _ (s : State) (image zygote : Notes) (was now : Memory) (p : Part) (o : O
       missed true n a ne = refl
       missed false n a ne = ap (λ b. b || is_touched p.touched a) (false_from_ne_true (same_page a n) (λ e. ne (bounds.page-same a n e)))
 
+      -- it is touched now, and no other page
       touches : Touches (first ++ p.touched)
       touches = record {
         hit = λ a sealed standing e.
@@ -416,6 +393,7 @@ module _ (s : State) (image zygote : Notes) (was now : Memory) (p : Part) (o : O
           (subst (λ b. is_card_among (add_cards (stored_cards_if b (cards_in o.place at.offset)) p.stored) d ≡ true) (sym ref)
           (subst (λ ds. AllByRecursion (λ c. is_card_among (add_cards (cards_in o.place at.offset) p.stored) c ≡ true) ds) one (has-cards (cards_in o.place at.offset) p.stored)).0)
 
+      -- the stored cards have it
       stores : Stores (add_cards cards p.stored)
       stores = record {
         more = λ d has. elim (or_cases (is_card_among p.stored d) (is_card_among p.held d) has) [

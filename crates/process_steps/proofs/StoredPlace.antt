@@ -77,6 +77,7 @@ module _ (s : State) (m : Memory) (p : Part) (k : StandsIn s m p) (o : Object) (
   abbrev StandsAt : Place → ℕ → Type 0
   StandsAt q address = Stand (homes_in s.regions.in_use s.rows) p.graph k.heap.formed k.heap.house o q address
 
+  -- the object stands in its window
   here : StandsAt o.place (addresses_in s p.graph o.number)
   here = stand (homes_in s.regions.in_use s.rows) p.graph k.heap.formed k.heap.house o there
 
@@ -101,6 +102,7 @@ module _ (s : State) (m : Memory) (p : Part) (k : StandsIn s m p) (o : Object) (
   off-window : (w : Window) → window_of o.place ≢ w → is_in w slot_page ≡ true → ⊥
   off-window w apart is = apart (one-window slot_page (window_of o.place) w slot-window is)
 
+  -- and then each object stands there
   in-image : p.graph.sealed ≡ false → is_in_image o.place ≡ true
   in-image unsealed = all_in (λ (x : Object). is_in_image x.place ≡ true) p.graph.objects o (k.heap.formed.before_seal unsealed) there
 
@@ -138,6 +140,7 @@ module _ (s : State) (m : Memory) (p : Part) (k : StandsIn s m p) (o : Object) (
     pub standing : stands p.graph name ≡ true
     pub at_is : page_named (addresses_in s p.graph) name ≡ slot_page
 
+  -- the page of the name is the slot's
   at-page : (q : Place) (address : ℕ) → address ≡ addresses_in s p.graph o.number → StandsAt q address → (name : PageName) → page_in o q at.offset ≡ Some name
       → page_named (addresses_in s p.graph) name ≡ page_of (address + at.offset)
   at-page (place.Image spot) address e h name is = ap (page_named table) (sym (same_Some (Image ((spot + at.offset - image_base) / page_bytes)) name is)) ∙ omega (arith, h.0, h.1)
@@ -146,6 +149,7 @@ module _ (s : State) (m : Memory) (p : Part) (k : StandsIn s m p) (o : Object) (
   at-page place.Large address e (j, h) name is = ap (page_named table) (sym (same_Some (Large o.number (at.offset / page_bytes)) name is)) ∙ omega (arith, h.0, e)
   at-page place.Promoted address e (j, h) name is = ap (page_named table) (sym (same_Some (Large o.number (at.offset / page_bytes)) name is)) ∙ omega (arith, h.0, e)
 
+  -- an immune object's page has a name that stands
   pub named-page : is_immune p.graph.sealed o.place ≡ true → NamedPage
   named-page immune =
       let on = object_stands p.graph o at.offset k.heap.formed there immune below in
@@ -156,6 +160,7 @@ module _ (s : State) (m : Memory) (p : Part) (k : StandsIn s m p) (o : Object) (
         at_is = at-page o.place (table o.number) refl here on.0 on.1;
       }
 
+  -- what waits isn't immune
   waiting-loose : (q : Place) → is_waiting q ≡ true → is_immune true q ≡ false
   waiting-loose (place.Image spot) e = absurd (true≢false (sym e))
   waiting-loose (place.Zygote spot) e = absurd (true≢false (sym e))
@@ -184,7 +189,8 @@ module _ (s : State) (m : Memory) (p : Part) (k : StandsIn s m p) (o : Object) (
     where
       beside : is_in window.Regions slot_page ≡ false
       beside = subst (λ q. is_in window.Regions q ≡ false) same
-          (named-beside (heap_of s []) m s.page_table p.graph k.heap k.heap.formed.image_fits k.heap.formed.zygote_fits a (named_both p.graph a ∙ or_left (stands p.graph a) (named.waits p.graph a) standing))
+          (named-beside (heap_of s []) m s.page_table p.graph k.heap k.heap.formed.image_fits k.heap.formed.zygote_fits a
+          (named_both p.graph a ∙ or_left (stands p.graph a) (named.waits p.graph a) standing))
 
       by : (q : Place) → is_immune true q ≡ false → is_in (window_of q) slot_page ≡ true → (q ≡ place.Large → ⊥) → ⊥
       by (place.Image spot) loose is large = true≢false loose
@@ -210,6 +216,7 @@ module _ (s : State) (m : Memory) (p : Part) (k : StandsIn s m p) (o : Object) (
       by place.Large address e h is = tt
       by place.Promoted address e h is = tt
 
+  -- in the image it is a card of the image, and in the zygote window one of that
   pub image-card : is_in window.Image slot_page ≡ true
       → (j : ℕ) × (cards_in o.place at.offset ≡ card.Image j ∷ []) × (card_of image_base + j ≡ slot_card)
   image-card is = by o.place (table o.number) refl here (λ apart. off-window window.Image apart is)

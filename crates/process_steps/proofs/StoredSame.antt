@@ -67,6 +67,7 @@ module _ (n : ℕ) (new : Stored) where
       by true rest = rest
       by false rest = rest
 
+  -- how many have slots of their own
   count-stored : (large : ℕ) (os : List Object) → large_count large (stored_in os n new) ≡ large_count large os
   count-stored large [] = refl
   count-stored large (o ∷ os) = by (nat_eq o.number n) (count-stored (large_behind large o.place) os)
@@ -77,6 +78,7 @@ module _ (n : ℕ) (new : Stored) where
       by false rest = rest
 
   module _ (cs : List Class) (slots : List ℕ) where
+    -- a row doesn't tell what its object holds
     with-row : (k : ℕ) (o : Object) (ss : List Stored) (at : Place) (rows : List LargeRow) → with_row cs slots k (record o { slots = ss }) at rows ≡ with_row cs slots k o at rows
     with-row k o ss (Image spot) rows = refl
     with-row k o ss (Zygote spot) rows = refl
@@ -84,11 +86,13 @@ module _ (n : ℕ) (new : Stored) where
     with-row k o ss Large rows = refl
     with-row k o ss Promoted rows = refl
 
+    -- the rows are the same
     rows-stored : (k : ℕ) (os : List Object) → rows_from cs slots k (stored_in os n new) ≡ rows_from cs slots k os
     rows-stored k [] = refl
     rows-stored k (o ∷ os) = by (nat_eq o.number n) (ap (with_row cs slots k o o.place) (rows-stored (large_behind k o.place) os))
       where
-        by : (b : Bool) → with_row cs slots k o o.place (rows_from cs slots (large_behind k o.place) (stored_in os n new)) ≡ with_row cs slots k o o.place (rows_from cs slots (large_behind k o.place) os)
+        by : (b : Bool)
+            → with_row cs slots k o o.place (rows_from cs slots (large_behind k o.place) (stored_in os n new)) ≡ with_row cs slots k o o.place (rows_from cs slots (large_behind k o.place) os)
             → rows_from cs slots k (stored_in_if b o new ∷ stored_in os n new) ≡ with_row cs slots k o o.place (rows_from cs slots (large_behind k o.place) os)
         by true rest = with-row k o (with_stored o.slots new) o.place (rows_from cs slots (large_behind k o.place) (stored_in os n new)) ∙ rest
         by false rest = rest
@@ -101,6 +105,7 @@ page-same table next same (page.Image k) = refl
 page-same table next same (page.Zygote k) = refl
 page-same table next same (page.Large n k) = ap (λ x. page_of x + k) (same n)
 
+-- and roots hold the same addresses
 root-same : (table next : ℕ → ℕ) → ((k : ℕ) → next k ≡ table k) → (h : Held) → root_address next h ≡ root_address table h
 root-same table next same held.Null = refl
 root-same table next same (held.Object n) = same n
@@ -109,10 +114,12 @@ module _ (g : Graph) (n : ℕ) (new : Stored) where
   abbrev h : Graph
   h = with_slot g n new
 
+  -- no object moves
   pub same-table : (homes : Homes) (k : ℕ) → table_of homes (with_slot g n new) k ≡ table_of homes g k
   same-table homes k = table-stored homes g.classes k n new 0 0 g.objects
 
-  pub same-sizes : young_sizes (with_slot g n new) ≡ young_sizes g
+  -- the young objects have the same sizes
+  same-sizes : young_sizes (with_slot g n new) ≡ young_sizes g
   same-sizes = map-stored n new (size_of_object g.classes) (size_of_object g.classes) (λ o ss. refl) is_young g.objects
 
   pub same-length : length (with_slot g n new).objects ≡ length g.objects
@@ -127,6 +134,7 @@ module _ (g : Graph) (n : ℕ) (new : Stored) where
   pub same-promoted : promoted_pages (with_slot g n new) ≡ promoted_pages g
   same-promoted = all_pages-same g.classes g.classes g.objects h.objects (stored-same g.classes g.objects n new)
 
+  -- there is a home for each object still
   pub same-house : (homes : Homes) → HouseAll homes g → HouseAll homes (with_slot g n new)
   same-house homes house = record {
     regions = house.regions;
@@ -151,9 +159,11 @@ module _ (g : Graph) (n : ℕ) (new : Stored) where
   }
 
   module _ (formed : IsFormed g) where
+    -- as many bytes of the windows are filled
     pub same-fills : (image_fill (with_slot g n new) ≡ image_fill g) × (zygote_fill (with_slot g n new) ≡ zygote_fill g)
     same-fills = fills-same g h (stored-same g.classes g.objects n new) formed.zygote
 
+    -- the same pages stand, and what is named or waits was so before
     pub same-stands : (a : PageName) → stands (with_slot g n new) a ≡ stands g a
     same-stands a = sym (standing_lists h a) ∙ ap (λ ps. is_touched ps a) (standing-stored g n new formed) ∙ standing_lists g a
 
