@@ -2,3 +2,7 @@ pub mod Forking
 pub mod Settled
 pub mod Promoted
 pub mod Promotion
+pub mod StoredSame
+pub mod StoredPlace
+pub mod StoredNotes
+pub mod Stored
