@@ -1,0 +1,4 @@
+mod Growing
+mod Packing
+mod WithObject
+mod MadeYoung
