@@ -2,3 +2,5 @@ mod Growing
 mod Packing
 mod WithObject
 mod MadeYoung
+mod LargeRows
+mod MadeLarge

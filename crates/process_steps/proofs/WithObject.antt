@@ -1,6 +1,6 @@
 -- What a process keeps for a graph with one object more, in whichever place.
-use Rattle.std.proofs.Common.{◌≡◌, ◌∙◌, ◌⊎◌, ℕ, ◌+◌, ◌-◌, ◌<◌, ◌≤◌, Bool, true, false, true≢false, ◌&&◌, ◌||◌, cond, List, [], ◌∷◌, ◌++◌, map, length, nat_eq, nat_lt, append-nil, refl, sym, ap, subst, inl, inr, arith}
-use Rattle.std.specs.List.{flat_map, list_any}
+use Rattle.std.proofs.Common.{◌≡◌, ◌∙◌, ℕ, ◌+◌, ◌-◌, ◌<◌, ◌≤◌, Bool, true, false, ◌&&◌, ◌||◌, cond, List, [], ◌∷◌, ◌++◌, map, length, nat_eq, nat_lt, append-nil, refl, sym, ap, subst, arith}
+use Rattle.std.specs.List.{list_any}
 use Rattle.std.proofs.lemmas.Bool.{and_from, and_parts, eqb-true, leb-true, lt-ltb}
 use Rattle.std.proofs.lemmas.Grind.{flat_map-append}
 use Rattle.std.proofs.lemmas.List.{length-append}
@@ -8,7 +8,7 @@ use Rattle.class_layout.specs.ClassList.{Class}
 use Rattle.class_layout.specs.Placing.{IsIn}
 use Rattle.page_tables.specs.declared.address.Addr.{Addr}
 use Rattle.page_tables.specs.Address.{page_of}
-use Rattle.cow_pages.specs.Memory.{is_mapped, HasOneSharer, IsSound, Memory}
+use Rattle.cow_pages.specs.Memory.{is_mapped, HasOneSharer, Memory}
 use Rattle.cow_pages.specs.Only.{OnlyTable}
 use Rattle.cow_pages.proofs.OnlyLemmas.{own-stays}
 use Rattle.page_runs.specs.Covered.{covers}
@@ -27,7 +27,6 @@ use Rattle.model_numbers.specs.Numbers.{image_base, image_length, page_bytes, zy
 use Rattle.heap_graph.proofs.LaidOut.{all-weaken}
 use Rattle.heap_graph.proofs.Lists.{any-map}
 use Rattle.heap_world.specs.declared.names.Card.{Card}
-use Rattle.heap_world.specs.declared.names.Card.TheVariants as card
 use Rattle.heap_world.specs.Acts.{root_written}
 use Rattle.heap_world.specs.Cards.{outward_cards}
 use Rattle.heap_world.specs.Pages.{pages_if_promoted, promoted_pages}
@@ -36,18 +35,15 @@ use Rattle.heap_world.proofs.FormedAims.{closed_objects, closed_roots, RootsAim}
 use Rattle.heap_world.proofs.Noted.{outward-pushed}
 use Rattle.world_laws.specs.Named.{has_page, is_paged}
 use Rattle.graph_pages.proofs.Lists.{any-from, any-to}
-use Rattle.image_space.specs.Space as image
-use Rattle.region_space.specs.Space.{Space}
-use Rattle.large_objects.specs.declared.rows.LargeRow.{LargeRow}
 use Rattle.object_view.specs.Changes.{pages_in}
 use Rattle.object_view.specs.Seen.{root_address}
 use Rattle.root_list.specs.declared.root.RootAt.{RootAt}
 use Rattle.root_list.specs.Roots.{held_by_all, with_root}
 use Rattle.process_state.specs.Cards.{has_noted, NotesCards, NotesNothing, NotesWindow}
-use Rattle.process_state.specs.Stands.{HasCounts, StandsIn}
+use Rattle.process_state.specs.Stands.{StandsIn}
 use Rattle.process_state.specs.State.{addresses_in, State}
 use Rattle.process_state.proofs.Roots.{kept, kept-addresses, kept-names, kept-written, roots-are}
-use Rattle.process_state.proofs.Same.{mapped-frame, sharer-mapped}
+use Rattle.process_state.proofs.Same.{mapped-frame}
 
 -- LISTS
 

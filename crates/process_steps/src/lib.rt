@@ -12,9 +12,7 @@ mod seals;
 mod stores;
 
 pub use classes::defined_classes_act;
-pub use counts::{
-    held_cards_are_noted, pages_are_counted, room_is_counted, slots_are_few,
-};
+pub use counts::{held_cards_are_noted, pages_are_counted, room_is_counted, slots_are_few};
 pub use found::objects_are_found;
 pub use made::made_objects_act;
 pub use promotions::{forks_act, promotions_act};
