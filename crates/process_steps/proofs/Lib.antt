@@ -4,3 +4,4 @@ mod WithObject
 mod MadeYoung
 mod LargeRows
 mod MadeLarge
+mod MadeImage
