@@ -1,18 +1,17 @@
 -- A process whose new object was placed in the image stands for its part with the object.
-use Rattle.std.proofs.Common.{◌≡◌, ◌∙◌, ◌⊎◌, ℕ, ◌+◌, ◌-◌, ◌*◌, ◌<◌, ◌≤◌, Bool, true, false, true≢false, ◌||◌, List, [], ◌∷◌, ◌++◌, Option, map, filter, length, nat_lt, is_some, option_map, refl, sym, ap, subst, inl, inr, arith}
+use Rattle.std.proofs.Common.{◌≡◌, ◌∙◌, ℕ, ◌+◌, ◌-◌, Bool, true, false, true≢false, ◌||◌, List, [], ◌∷◌, ◌++◌, Option, map, length, nat_lt, is_some, option_map, refl, sym, ap, subst, inl, inr, arith}
 use Rattle.std.specs.Prelude.{IsTrue}
 use Rattle.std.specs.List.{list_any}
-use Rattle.std.proofs.lemmas.Bool.{and_from, and_parts, eqb-true, false_from_ne_true, le-leb, leb-true, lt-ltb, ltb-true, or_cases}
+use Rattle.std.proofs.lemmas.Bool.{and_parts, false_from_ne_true, leb-true}
 use Rattle.std.proofs.lemmas.List.Elements.{filter-append}
-use Rattle.std.proofs.Math.Seq.{get_or-append_seam}
-use Rattle.std.specs.Prelude.{nat_eq, nat_le, slice_index, ◌&&◌}
+use Rattle.std.specs.Prelude.{nat_eq, nat_le}
 use Rattle.std.proofs.lemmas.List.Folds.{list_any-append}
-use Rattle.std.proofs.lemmas.List.{append-nil, get_or_append_left, length-map, map-append}
+use Rattle.std.proofs.lemmas.List.{append-nil}
 use Rattle.class_layout.specs.Placing.{IsIn}
 use Rattle.page_tables.specs.declared.address.Addr.{Addr}
 use Rattle.page_tables.specs.declared.address.Window.TheVariants as window
 use Rattle.page_tables.specs.Address.{is_in, page_of}
-use Rattle.cow_pages.specs.Memory.{flag_of, frame_at, is_mapped, is_written, page_at, HasOneSharer, Memory, Page}
+use Rattle.cow_pages.specs.Memory.{frame_at, is_mapped, is_written, page_at, HasOneSharer, Memory, Page}
 use Rattle.cow_pages.specs.Only.{OnlyTable}
 use Rattle.cow_pages.proofs.OnlyLemmas.{only-trans}
 use Rattle.heap_graph.specs.declared.names.Place.{Place}
@@ -21,45 +20,39 @@ use Rattle.heap_graph.specs.declared.names.Shape.{Shape}
 use Rattle.heap_graph.specs.declared.names.Stored.{Stored}
 use Rattle.heap_graph.specs.Allocation.{with_object}
 use Rattle.heap_graph.specs.Allocation.Allocated.{Made}
-use Rattle.heap_graph.specs.Formed.{IsFormed, SuitsShape}
+use Rattle.heap_graph.specs.Formed.{IsFormed}
 use Rattle.heap_graph.specs.Graph.{image_fill, is_young, size_of_object, zygote_fill, Graph, Object}
 use Rattle.heap_graph.specs.Packing.{end_from, used, young_objects, young_sizes}
-use Rattle.heap_graph.specs.Sizes.{is_large, parts_for, size_in, unrounded}
-use Rattle.heap_graph.proofs.Sizes.{not-large, size-least, unrounded-least}
-use Rattle.model_numbers.specs.Numbers.{large_base, large_slot_bytes, page_bytes, region_bytes}
+use Rattle.heap_graph.specs.Sizes.{parts_for, size_in, unrounded}
+use Rattle.heap_graph.proofs.Sizes.{size-least}
+use Rattle.model_numbers.specs.Numbers.{page_bytes, region_bytes}
 use Rattle.heap_world.specs.declared.names.PageName.{PageName}
 use Rattle.heap_world.specs.declared.names.PageName.TheVariants.{Image, Zygote, Large}
 use Rattle.heap_world.specs.declared.names.Card.{Card}
 use Rattle.heap_world.specs.declared.names.Card.TheVariants as card
-use Rattle.heap_world.specs.Acts.{after_make, pages_of_new, root_written, slot_pages_if}
+use Rattle.heap_world.specs.Acts.{after_make, pages_of_new, root_written}
 use Rattle.heap_world.specs.Pages.{is_touched}
 use Rattle.heap_world.specs.Part.{Part}
-use Rattle.heap_world.proofs.Standing.{in-count, in-left}
+use Rattle.heap_world.proofs.Standing.{in-left}
 use Rattle.world_laws.proofs.PageLists.{in_count_at}
-use Rattle.world_laws.specs.Named.{has_page, has_slot, is_named, is_page, is_paged, is_promoted, is_waiting, stands, waits}
+use Rattle.world_laws.specs.Named.{has_page, has_slot, is_named, is_paged, is_waiting, waits}
 use Rattle.world_laws.proofs.Named.{fills-image, reaches-image}
-use Rattle.address_table.specs.Computed.{large_count, slot_at, Homes, HouseAll}
-use Rattle.address_table.proofs.Behind.{last_end}
-use Rattle.address_table.proofs.Beside.{all-in, not-too-large, shape-in}
+use Rattle.address_table.specs.Computed.{large_count, Homes, HouseAll}
+use Rattle.address_table.proofs.Beside.{all-in}
 use Rattle.page_runs.specs.Runs.{IsInRun, MapsRun}
 use Rattle.image_space.specs.Space.{pages_up_to}
-use Rattle.object_view.specs.Changes.{pages_in}
 use Rattle.page_runs.proofs.RunLemmas.{run-only, side}
 use Rattle.raw_objects.specs.Keeps.{Keeps}
 use Rattle.raw_objects.proofs.Kept.{one-table}
 use Rattle.page_runs.specs.Covered.{covers}
 use Rattle.graph_pages.specs.Pages.{page_named}
 use Rattle.graph_pages.proofs.Grown.{grown-same}
-use Rattle.graph_pages.proofs.Lists.{in-filter, in-last}
+use Rattle.graph_pages.proofs.Lists.{in-filter}
 use Rattle.graph_pages.proofs.Named.{names-mapped}
-use Rattle.large_objects.proofs.LawLemmas.{row-covers}
 use Rattle.object_moves.specs.Copies.{PacksAt}
 use Rattle.object_moves.proofs.One.{covered-page}
-use Rattle.evacuate.specs.Stands.{home_of, homes_in, rows_from, young_homes, HoldsHeap}
+use Rattle.evacuate.specs.Stands.{home_of, homes_in, young_homes, HoldsHeap}
 use Rattle.evacuate.proofs.Members.{map-same}
-use Rattle.large_objects.specs.declared.rows.LargeRow.{LargeRow}
-use Rattle.large_objects.specs.Pages as large
-use Rattle.large_objects.specs.Rows as large_rows
 use Rattle.root_list.specs.Roots.{with_root}
 use Rattle.zygote_compact.specs.Spots.{is_spot}
 use Rattle.image_space.specs.Space as image
@@ -71,12 +64,12 @@ use Rattle.process_state.specs.Acts.{Acts, Step}
 use Rattle.process_state.specs.Cards.{has_noted}
 use Rattle.process_state.specs.Stands.{is_image_spot, HasFlags, StandsIn}
 use Rattle.process_state.specs.State.{addresses_in, heap_of, State}
-use Rattle.process_state.proofs.Pages.{named-window, promoted-slot, waiting-slot}
+use Rattle.process_state.proofs.Pages.{named-window, waiting-slot}
 use Rattle.process_state.proofs.Same.{sharer-mapped}
 use Rattle.process_steps.specs.Kept.{IsKept}
 use Rattle.process_steps.specs.Placing.{homes, HasPlace, IsMade, PlacesInImage}
-use Rattle.process_steps.proofs.Growing.{rows-push, count-push, table-last, table-same}
-use Rattle.process_steps.proofs.WithObject.{alone-then, any-push, covers-range, heap-cards, made-addresses, made-count, made-names, made-promoted, more-paged, no-page, paged-object}
+use Rattle.process_steps.proofs.Growing.{rows-push, count-push, table-last}
+use Rattle.process_steps.proofs.WithObject.{alone-then, any-push, heap-cards, made-addresses, made-count, made-names, made-promoted, more-paged}
 
 module _ (s : State) (space : image.Space) (was between now : Memory) (p : Part) (root : List ℕ) (shape : Shape) (slots : List Stored) (at : ℕ) (k : StandsIn s was p) (sealed : p.graph.sealed ≡ false) where
   abbrev placed : State
@@ -206,8 +199,8 @@ module _ (s : State) (space : image.Space) (was between now : Memory) (p : Part)
         let bounded = placing.space.bounded in
         let end = placing.places.fill in
         let off : covers at size q ≡ false = false_from_ne_true (covers at size q) (λ has.
-            let range = leb-true q (page_of (at + size - 1)) (and_parts (nat_le (page_of at) q) (nat_le q (page_of (at + size - 1))) has).1 in
-            absurd (omega (arith, range, spot, end, bounded, size-least g.classes made))) in
+        let range = leb-true q (page_of (at + size - 1)) (and_parts (nat_le (page_of at) q) (nat_le q (page_of (at + size - 1))) has).1 in
+        absurd (omega (arith, range, spot, end, bounded, size-least g.classes made))) in
         ap (λ (o : Option Page). option_map (λ (page : Page). page.frame) o) (keeps.others t q (inr off) ∙ page-between q mapped)
 
     flags : HasFlags new now (record p { graph = root_written (with_object p.graph shape slots (place.Image (image_base + image_fill p.graph))) root p.graph.next })
