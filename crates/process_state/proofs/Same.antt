@@ -74,7 +74,7 @@ module _ (s : State) (p : Part) (old new : Memory) (h : StandsIn s old p) (same 
   stands-same sound = assumption (h, heap-same sound, flags-same, alone-same)
 
 -- no page outside the windows is mapped, so an entry that has its frame alone is
-sharer-mapped : (m : Memory) (t q : ℕ) → IsSound m → HasOneSharer m t q → is_mapped m t q ≡ true
+pub sharer-mapped : (m : Memory) (t q : ℕ) → IsSound m → HasOneSharer m t q → is_mapped m t q ≡ true
 sharer-mapped m t q sound alone = by (cases_Bool (is_mapped m t q))
   where
     none : (r : ℕ) → is_mapped m t r ≡ false → frame_at m t r ≡ None
@@ -99,7 +99,7 @@ sharer-mapped m t q sound alone = by (cases_Bool (is_mapped m t q))
         absurd (omega (arith, one, other))
 
 -- the frame of a page that is mapped
-mapped-frame : (m : Memory) (t q : ℕ) → is_mapped m t q ≡ true → (f : ℕ) × (frame_at m t q ≡ Some f)
+pub mapped-frame : (m : Memory) (t q : ℕ) → is_mapped m t q ≡ true → (f : ℕ) × (frame_at m t q ≡ Some f)
 mapped-frame m t q = by (page_at m t q)
   where
     by : (o : Option Page) → is_some o ≡ true → (f : ℕ) × (option_map (λ (page : Page). page.frame) o ≡ Some f)

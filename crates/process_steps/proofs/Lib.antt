@@ -6,3 +6,10 @@ pub mod StoredSame
 pub mod StoredPlace
 pub mod StoredNotes
 pub mod Stored
+mod Growing
+mod Packing
+mod WithObject
+mod MadeYoung
+mod LargeRows
+mod MadeLarge
+mod MadeImage
