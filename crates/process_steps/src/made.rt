@@ -35,7 +35,7 @@ pub fn large_objects_act()
 
 /// A process in which an object was placed and written, and its root, does what the definition of the making says where
 /// there is room.
-pub fn made_objects_act()
+pub fn image_objects_act()
     ensures { (c : Step) (p : Part) (root : List ℕ) (shape : Shape) (slots : List Stored) (placed : State) (between : Memory) (at : ℕ) → StandsIn c.old c.was p → p.graph.sealed ≡ false
         → IsKept (after_make p root shape (Made (with_object p.graph shape slots (place.Image (image_base + image_fill p.graph))) false)).part → PlacesInImage c.old placed c.was between at (size_in p.graph.classes shape)
         → HasPlace placed between p shape (place.Image (image_base + image_fill p.graph)) at → IsMade c p root shape slots (place.Image (image_base + image_fill p.graph)) placed between at → Acts c p (after_make p root shape (Made (with_object p.graph shape slots (place.Image (image_base + image_fill p.graph))) false)) }
