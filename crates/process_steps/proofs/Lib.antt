@@ -1,1 +1,3 @@
 pub mod QuietSteps
+pub mod MoreClasses
+pub mod ClassSteps
