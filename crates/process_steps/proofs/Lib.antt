@@ -13,3 +13,6 @@ mod MadeYoung
 mod LargeRows
 mod MadeLarge
 mod MadeImage
+pub mod QuietSteps
+pub mod MoreClasses
+pub mod ClassSteps
