@@ -1,0 +1,3 @@
+pub mod FewCards
+pub mod FewSlots
+pub mod RoomCounts
