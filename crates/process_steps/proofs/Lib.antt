@@ -1,3 +1,7 @@
 pub mod FewCards
 pub mod FewSlots
 pub mod RoomCounts
+pub mod ImagePages
+pub mod NamedPages
+pub mod PageCounts
+pub mod ToldPages
