@@ -1,20 +1,18 @@
 -- The pages of a window that pass a test are as many as the touched names of the window, where the test is that one has the page.
-use Rattle.std.proofs.Common.{◌≡◌, ◌≢◌, ◌∙◌, ℕ, ◌+◌, ◌-◌, ◌*◌, ◌/◌, ◌<◌, ◌≤◌, Bool, true, false, cond, not, List, [], ◌∷◌, Option, None, Some, length, filter, nat_eq, nat_lt, count_by, refl, sym, ap, subst, inl, inr, arith, true≢false}
-use Rattle.std.specs.Prelude.{nat_le, is_some}
-use Rattle.std.specs.List.{list_any, IsDistinct}
-use Rattle.std.proofs.lemmas.Bool.{and_from, and_parts, eq-eqb, eqb-true, le-leb, leb-true, lt-ltb, ltb-true, or_left}
+use Rattle.std.proofs.Common.{◌≡◌, ◌∙◌, ℕ, ◌+◌, ◌<◌, ◌≤◌, Bool, true, List, [], Some, filter, nat_eq, nat_lt, count_by, sym, ap, subst, arith}
+use Rattle.std.specs.Prelude.{nat_le}
+use Rattle.std.proofs.lemmas.Bool.{and_parts, eq-eqb, eqb-true, leb-true, ltb-true, or_left}
 use Rattle.std.proofs.lemmas.List.Elements.{All-contains}
 use Rattle.std.proofs.lemmas.List.Sums.{length-filter}
 use Rattle.std.proofs.lemmas.Option.{same_Some}
-use Rattle.model_numbers.specs.Numbers.{large_slot_bytes, page_bytes}
+use Rattle.model_numbers.specs.Numbers.{large_slot_bytes}
 use Rattle.class_layout.specs.Placing.{IsIn}
 use Rattle.page_tables.specs.declared.address.Window.{Window}
-use Rattle.page_tables.specs.declared.address.Window.TheVariants as window
 use Rattle.page_tables.specs.Address.{first_page, is_in, page_count, page_of}
-use Rattle.cow_pages.specs.Memory.{flag_of, is_mapped, is_written, page_at, Memory, Page}
+use Rattle.cow_pages.specs.Memory.{is_written, Memory}
 use Rattle.cow_pages.specs.View.{numbers_from}
 use Rattle.cow_pages.proofs.LawLemmas.{count-same}
-use Rattle.heap_graph.specs.Graph.{Graph, Object}
+use Rattle.heap_graph.specs.Graph.{Graph}
 use Rattle.heap_world.specs.declared.names.PageName.{PageName}
 use Rattle.heap_world.specs.declared.names.PageName.TheVariants.{Image, Zygote, Large}
 use Rattle.heap_world.specs.Pages.{is_touched, same_page, standing_pages}

@@ -1,8 +1,8 @@
 -- The counts of pages that a process tells are those of its part.
-use Rattle.std.proofs.Common.{◌≡◌, ◌∙◌, ℕ, ◌+◌, ◌-◌, ◌*◌, ◌/◌, ◌<◌, ◌≤◌, Bool, true, false, cond, not, ◌&&◌, List, [], ◌∷◌, ◌++◌, Option, None, Some, length, length-append, filter, map, nat_eq, nat_lt, count_by, refl, sym, ap, subst, inl, inr, arith, true≢false}
-use Rattle.std.specs.Prelude.{nat_le, is_some, IsTrue}
+use Rattle.std.proofs.Common.{◌≡◌, ◌∙◌, ℕ, ◌+◌, ◌-◌, ◌<◌, ◌≤◌, Bool, true, false, not, ◌&&◌, List, [], ◌∷◌, ◌++◌, Option, None, Some, length, length-append, filter, map, nat_eq, nat_lt, count_by, refl, sym, ap, subst, arith, true≢false}
+use Rattle.std.specs.Prelude.{nat_le, is_some}
 use Rattle.std.specs.List.{flat_map, list_any}
-use Rattle.std.proofs.lemmas.Bool.{and_from, and_parts, eq-eqb, le-leb, leb-true, lt-ltb, ltb-true}
+use Rattle.std.proofs.lemmas.Bool.{and_from, and_parts, eq-eqb, leb-true, lt-ltb, ltb-true}
 use Rattle.std.proofs.lemmas.List.{length-map}
 use Rattle.std.proofs.lemmas.List.Sums.{sum_by-cons}
 use Rattle.model_numbers.specs.Numbers.{page_bytes}
@@ -11,7 +11,7 @@ use Rattle.class_layout.specs.Placing.{IsIn}
 use Rattle.page_tables.specs.declared.address.Window.{Window}
 use Rattle.page_tables.specs.declared.address.Window.TheVariants as window
 use Rattle.page_tables.specs.Address.{first_page, is_in, page_count, page_of}
-use Rattle.cow_pages.specs.Memory.{flag_of, is_mapped, is_written, mapped_in, page_at, written_in, Memory, Page}
+use Rattle.cow_pages.specs.Memory.{flag_of, is_written, mapped_in, page_at, written_in, Memory, Page}
 use Rattle.cow_pages.specs.View.{numbers_from}
 use Rattle.cow_pages.proofs.LawLemmas.{counts}
 use Rattle.heap_graph.specs.declared.names.Place.{Place}
