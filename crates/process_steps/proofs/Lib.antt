@@ -16,3 +16,10 @@ mod MadeImage
 pub mod QuietSteps
 pub mod MoreClasses
 pub mod ClassSteps
+pub mod FewCards
+pub mod FewSlots
+pub mod RoomCounts
+pub mod ImagePages
+pub mod NamedPages
+pub mod PageCounts
+pub mod ToldPages
