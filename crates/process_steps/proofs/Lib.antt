@@ -23,3 +23,4 @@ pub mod ImagePages
 pub mod NamedPages
 pub mod PageCounts
 pub mod ToldPages
+pub mod NewFormed
