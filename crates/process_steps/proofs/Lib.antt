@@ -24,3 +24,4 @@ pub mod NamedPages
 pub mod PageCounts
 pub mod ToldPages
 pub mod NewFormed
+pub mod ImageRoom
