@@ -46,7 +46,7 @@ use Rattle.process_steps.proofs.ImagePages.{image-up-to}
 use Rattle.process_steps.proofs.WithObject.{alone-then}
 
 -- what is so whenever something else is, is so beside it
-absorbs : (b c : Bool) → (c ≡ true → b ≡ true) → (b || c) ≡ b
+pub absorbs : (b c : Bool) → (c ≡ true → b ≡ true) → (b || c) ≡ b
 absorbs true c h = refl
 absorbs false true h = sym (h refl)
 absorbs false false h = refl

@@ -25,3 +25,4 @@ pub mod PageCounts
 pub mod ToldPages
 pub mod NewFormed
 pub mod ImageRoom
+pub mod SlotRoom
