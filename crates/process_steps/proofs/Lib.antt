@@ -26,3 +26,4 @@ pub mod ToldPages
 pub mod NewFormed
 pub mod ImageRoom
 pub mod SlotRoom
+pub mod Sealing
