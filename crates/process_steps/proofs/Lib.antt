@@ -27,3 +27,4 @@ pub mod NewFormed
 pub mod ImageRoom
 pub mod SlotRoom
 pub mod Sealing
+pub mod Beginning
