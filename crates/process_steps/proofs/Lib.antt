@@ -28,3 +28,4 @@ pub mod ImageRoom
 pub mod SlotRoom
 pub mod Sealing
 pub mod Beginning
+pub mod Finds

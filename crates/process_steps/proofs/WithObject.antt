@@ -76,7 +76,7 @@ paged-object test cs os n k is =
     (it.0, it.1, eqb-true it.0.number n (and_parts (nat_eq it.0.number n) _ it.2).0)
 
 -- an object of a number that is there
-among-object : (os : List Object) (n : ℕ) → is_among (numbers os) n ≡ true → (o : Object) × IsIn o os × (n ≡ o.number)
+pub among-object : (os : List Object) (n : ℕ) → is_among (numbers os) n ≡ true → (o : Object) × IsIn o os × (n ≡ o.number)
 among-object os n is =
     let it = any-from (λ (o : Object). nat_eq n o.number) os (sym (any-map (λ (o : Object). o.number) (nat_eq n) os) ∙ is) in
     (it.0, it.1, eqb-true n it.0.number it.2)
