@@ -1,9 +1,8 @@
 -- The first process of a machine stands.
-use Rattle.std.proofs.Common.{◌≡◌, ◌∙◌, ℕ, ◌*◌, ◌≤◌, Bool, true, false, true≢false, List, [], ◌++◌, map, filter, length, is_some, refl, sym, ap, subst, arith}
-use Rattle.std.specs.Prelude.{IsTrue}
+use Rattle.std.proofs.Common.{◌≡◌, ◌∙◌, ℕ, ◌*◌, ◌≤◌, false, true≢false, List, [], ◌++◌, map, filter, length, is_some, refl, sym, ap, subst, arith}
 use Rattle.std.specs.List.{list_any}
 use Rattle.model_numbers.specs.Numbers.{image_base, image_length, most_regions, number_limit, zygote_base, zygote_length}
-use Rattle.cow_pages.specs.Memory.{is_mapped, Memory}
+use Rattle.cow_pages.specs.Memory.{Memory}
 use Rattle.heap_graph.specs.Graph.{first_graph, Graph}
 use Rattle.heap_world.specs.declared.names.Card.{Card}
 use Rattle.heap_world.specs.declared.names.Card.TheVariants as card
@@ -21,7 +20,7 @@ use Rattle.large_objects.specs.Rows as large_rows
 use Rattle.live_objects.specs.Live.{addresses}
 use Rattle.address_table.specs.Computed.{AreNumbers, HouseAll}
 use Rattle.object_moves.specs.Copies.{PacksAt}
-use Rattle.evacuate.specs.Stands.{homes_in, young_homes, HoldsHeap}
+use Rattle.evacuate.specs.Stands.{homes_in, HoldsHeap}
 use Rattle.evacuate.proofs.Sealed.{no-numbers, packs-none}
 use Rattle.root_list.specs.declared.root.RootAt.{RootAt}
 use Rattle.root_list.specs.Roots.{held_by_all}

@@ -1,5 +1,5 @@
 -- A class that is defined: the process's objects stand as they stood.
-use Rattle.std.proofs.Common.{◌≡◌, ◌∙◌, ◌≤◌, ℕ, Bool, true, false, List, [], ◌++◌, Ok, Result, IfOk, IsTrue, length, map, nat_lt, refl, sym, ap, subst, true≢false}
+use Rattle.std.proofs.Common.{◌≡◌, ◌∙◌, ◌≤◌, ℕ, Bool, true, List, [], ◌++◌, Ok, Result, IfOk, IsTrue, length, map, nat_lt, refl, sym, ap, subst, true≢false}
 use Rattle.model_numbers.specs.Numbers.{field_limit, page_bytes, region_bytes}
 use Rattle.class_layout.specs.declared.classes.DefineError.{DefineError}
 use Rattle.class_layout.specs.declared.kind.FieldDecl.{FieldDecl}

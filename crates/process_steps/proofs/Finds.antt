@@ -1,5 +1,5 @@
 -- What roots and slots of a process hold is there, at its address.
-use Rattle.std.proofs.Common.{◌≡◌, ◌≢◌, ◌∙◌, ◌⊎◌, ℕ, ◌<◌, ◌≤◌, Bool, true, false, cond, List, [], ◌∷◌, Option, None, Some, map, nat_eq, refl, sym, ap, subst, inl, inr}
+use Rattle.std.proofs.Common.{◌≡◌, ◌≢◌, ◌∙◌, ℕ, ◌<◌, ◌≤◌, Bool, true, false, cond, List, [], ◌∷◌, Some, map, nat_eq, refl, sym, ap, subst, inl, inr}
 use Rattle.std.specs.List.{find}
 use Rattle.std.proofs.lemmas.Bool.{eqb-true}
 use Rattle.model_numbers.specs.Numbers.{number_limit}
@@ -9,7 +9,6 @@ use Rattle.class_layout.specs.Placing.{IsIn}
 use Rattle.class_layout.specs.ClassList.{Class}
 use Rattle.cow_pages.specs.Memory.{Memory}
 use Rattle.cow_pages.specs.View.{view_of}
-use Rattle.page_tables.specs.declared.address.Addr.{Addr}
 use Rattle.heap_graph.specs.declared.names.Content.TheVariants as content
 use Rattle.heap_graph.specs.declared.names.Held.{Held}
 use Rattle.heap_graph.specs.declared.names.Held.TheVariants as held
@@ -89,12 +88,13 @@ module _ (s : State) (m : Memory) (p : Part) (k : StandsIn s m p) where
   pub stands-found : (o : Object) → IsIn o p.graph.objects → StandsRaw s.classes (view_of m s.page_table) (addresses_in s p.graph o.number) (raw_under (addresses_in s p.graph) o)
       × IsKnown s.classes o.shape × (addresses_in s p.graph o.number ≢ 0) × (1 ≤ o.number) × (o.number < number_limit)
   stands-found o there =
-      let stands = k.heap.pages.objects.stands o there in
-      (subst (λ (cs : List Class). StandsRaw cs (view_of m s.page_table) (addresses_in s p.graph o.number) (raw_under (addresses_in s p.graph) o)) (sym k.heap.stands.classes) stands,
-      subst (λ (cs : List Class). IsKnown cs o.shape) (sym k.heap.stands.classes) (k.heap.pages.objects.known o there),
-      object-not-null (homes_in s.regions.in_use s.rows) p.graph k.heap.formed k.heap.house o there,
-      stands.header_fits.0,
-      stands.header_fits.1)
+      let stands = k.heap.pages.objects.stands o there in (
+        subst (λ (cs : List Class). StandsRaw cs (view_of m s.page_table) (addresses_in s p.graph o.number) (raw_under (addresses_in s p.graph) o)) (sym k.heap.stands.classes) stands,
+        subst (λ (cs : List Class). IsKnown cs o.shape) (sym k.heap.stands.classes) (k.heap.pages.objects.known o there),
+        object-not-null (homes_in s.regions.in_use s.rows) p.graph k.heap.formed k.heap.house o there,
+        stands.header_fits.0,
+        stands.header_fits.1,
+      )
 
   pub fits-found : (o : Object) (at : FieldAt) → IsIn o p.graph.objects → HasSlot p.graph.classes o.shape at → FitsKind at.kind (value_at o.slots at)
   fits-found o at there slot = value-fits p.graph o at k.heap.formed there (slot-place p.graph.classes o.shape at slot)

@@ -1,20 +1,17 @@
 -- Room for an object that was placed in the image.
-use Rattle.std.proofs.Common.{◌≡◌, ◌≢◌, ◌∙◌, ◌⊎◌, ℕ, ◌+◌, ◌-◌, ◌<◌, ◌≤◌, Bool, true, false, List, [], ◌∷◌, ◌++◌, map, refl, sym, ap, subst, inl, inr, arith, cond, is_some}
+use Rattle.std.proofs.Common.{◌≡◌, ◌≢◌, ◌∙◌, ◌⊎◌, ℕ, ◌+◌, ◌-◌, ◌<◌, ◌≤◌, Bool, true, false, [], ◌∷◌, map, refl, sym, ap, subst, inl, inr, arith, cond, is_some}
 use Rattle.std.specs.Prelude.{nat_le, nat_lt, ◌||◌, ◌&&◌}
-use Rattle.std.specs.List.{list_any}
-use Rattle.std.proofs.lemmas.Bool.{and_from, and_parts, cases_Bool, le-leb, leb-true, lt-ltb, or_right}
+use Rattle.std.proofs.lemmas.Bool.{and_from, and_parts, le-leb, leb-true, lt-ltb, or_right}
 use Rattle.std.proofs.lemmas.List.Elements.{filter-append}
 use Rattle.std.proofs.lemmas.List.{append-nil}
 use Rattle.model_numbers.specs.Numbers.{image_base, region_bytes}
 use Rattle.page_tables.specs.declared.address.Window.{Window}
 use Rattle.page_tables.specs.declared.address.Window.TheVariants as window
-use Rattle.page_tables.specs.Address.{first_page, is_in, page_of}
+use Rattle.page_tables.specs.Address.{is_in, page_of}
 use Rattle.cow_pages.specs.Memory.{is_mapped, HasOneSharer, Memory}
 use Rattle.cow_pages.specs.View.{view_of}
-use Rattle.heap_graph.specs.declared.names.Place.{Place}
 use Rattle.heap_graph.specs.declared.names.Place.TheVariants as place
 use Rattle.heap_graph.specs.declared.names.Shape.{Shape}
-use Rattle.heap_graph.specs.declared.names.Stored.{Stored}
 use Rattle.heap_graph.specs.Allocation.{with_object}
 use Rattle.heap_graph.specs.Formed.{IsFormed}
 use Rattle.heap_graph.specs.Graph.{image_fill, is_young, size_of_object, Graph, Object}
@@ -24,19 +21,19 @@ use Rattle.heap_graph.proofs.Sizes.{size-least}
 use Rattle.heap_world.specs.Part.{Part}
 use Rattle.object_view.specs.Changes.{pages_in, AreAlone}
 use Rattle.object_view.specs.Objects.{IsSpace}
-use Rattle.page_runs.specs.Runs.{IsInRun, MapsRun}
+use Rattle.page_runs.specs.Runs.{IsInRun}
 use Rattle.page_runs.proofs.RunLemmas.{run-only, side}
 use Rattle.image_space.specs.Space as image
 use Rattle.address_table.specs.Computed.{large_count, table_of, Homes, HouseAll}
 use Rattle.address_table.proofs.Fitting.{fits}
 use Rattle.raw_objects.proofs.Paging.{raws-run}
 use Rattle.graph_pages.specs.Holds.{raws_under, HoldsGraph}
-use Rattle.graph_pages.specs.Pages.{has_bytes_in, HasRoomFor, MapsWindow}
+use Rattle.graph_pages.specs.Pages.{has_bytes_in, MapsWindow}
 use Rattle.graph_pages.proofs.Graphs.{graph-among, graph-raws, raws-graph, tells-apart}
 use Rattle.graph_pages.proofs.Grown.{grown-same}
 use Rattle.graph_pages.proofs.Lists.{in-last}
 use Rattle.graph_pages.proofs.Numbers.{numbers-differ}
-use Rattle.graph_pages.proofs.Paged.{bytes-in, pages-grown}
+use Rattle.graph_pages.proofs.Paged.{pages-grown}
 use Rattle.evacuate.specs.Stands.{homes_in}
 use Rattle.process_state.specs.Stands.{StandsIn}
 use Rattle.process_state.specs.State.{State}
@@ -94,7 +91,6 @@ module _ (s : State) (space : image.Space) (was between : Memory) (p : Part) (sh
   address = (fits at_homes grown formed house).placed made (in-last p.graph.objects made) ∙ ap (λ n. image_base + n) (sym k.image.fill) ∙ sym at-is
 
   -- ITS PAGES
-
 
   in-image : (q : ℕ) → page_of at ≤ q → q < image.end_page s.image.fill → is_in window.Image q ≡ true
   in-image q from below =

@@ -1,5 +1,5 @@
 -- A process whose new object was placed in the regions stands for its part with the object.
-use Rattle.std.proofs.Common.{◌≡◌, ◌∙◌, ◌⊎◌, ℕ, ◌+◌, ◌*◌, ◌<◌, ◌≤◌, Bool, true, false, true≢false, ◌||◌, List, [], ◌∷◌, ◌++◌, Option, map, filter, length, nat_lt, is_some, option_map, refl, sym, ap, subst, inl, inr, arith}
+use Rattle.std.proofs.Common.{◌≡◌, ◌∙◌, ℕ, ◌+◌, ◌*◌, ◌<◌, ◌≤◌, Bool, true, false, true≢false, List, [], ◌∷◌, ◌++◌, Option, map, length, nat_lt, is_some, option_map, refl, sym, ap, subst, inl, inr, arith}
 use Rattle.std.specs.Prelude.{IsTrue}
 use Rattle.std.specs.List.{list_any}
 use Rattle.std.proofs.lemmas.Bool.{or_cases, or_left, or_right}
@@ -10,7 +10,7 @@ use Rattle.class_layout.specs.Placing.{IsIn}
 use Rattle.page_tables.specs.declared.address.Addr.{Addr}
 use Rattle.page_tables.specs.declared.address.Window.TheVariants as window
 use Rattle.page_tables.specs.Address.{is_in, page_of}
-use Rattle.cow_pages.specs.Memory.{flag_of, frame_at, is_live, is_mapped, is_written, page_at, HasOneSharer, IsSound, Memory, Page}
+use Rattle.cow_pages.specs.Memory.{flag_of, is_mapped, is_written, page_at, HasOneSharer, Memory, Page}
 use Rattle.cow_pages.specs.Only.{OnlyTable}
 use Rattle.cow_pages.proofs.OnlyLemmas.{only-trans}
 use Rattle.heap_graph.specs.declared.names.Place.{Place}
@@ -21,8 +21,8 @@ use Rattle.heap_graph.specs.Allocation.{with_object}
 use Rattle.heap_graph.specs.Allocation.Allocated.{Made}
 use Rattle.heap_graph.specs.Formed.{IsFormed, SuitsShape}
 use Rattle.heap_graph.specs.Graph.{image_fill, is_young, size_of_object, zygote_fill, Graph, Object}
-use Rattle.heap_graph.specs.Packing.{costs, end_from, places_from, used, young_objects, young_sizes}
-use Rattle.heap_graph.specs.Sizes.{is_large, parts_for, size_in, unrounded}
+use Rattle.heap_graph.specs.Packing.{end_from, places_from, used, young_objects, young_sizes}
+use Rattle.heap_graph.specs.Sizes.{is_large, parts_for, size_in}
 use Rattle.heap_graph.proofs.Sizes.{size-least, young-packed}
 use Rattle.model_numbers.specs.Numbers.{page_bytes, region_bytes}
 use Rattle.heap_world.specs.declared.names.PageName.{PageName}
@@ -33,9 +33,9 @@ use Rattle.heap_world.specs.Acts.{after_make, pages_of_new, root_written, slot_p
 use Rattle.heap_world.specs.Pages.{is_touched}
 use Rattle.heap_world.specs.Part.{Part}
 use Rattle.heap_world.proofs.Placed.{end-is, young_end, young_next}
-use Rattle.world_laws.specs.Named.{has_page, has_slot, is_named, is_page, is_paged, is_promoted, is_waiting, stands, waits}
+use Rattle.world_laws.specs.Named.{has_page, has_slot, is_named, is_page, is_promoted, is_waiting, stands, waits}
 use Rattle.world_laws.proofs.Named.{fills-heap}
-use Rattle.address_table.specs.Computed.{end_behind, large_count, packed_at, table_of, Homes, HouseAll}
+use Rattle.address_table.specs.Computed.{end_behind, large_count, packed_at, Homes, HouseAll}
 use Rattle.address_table.proofs.Behind.{last_end}
 use Rattle.address_table.proofs.Beside.{all-in, not-too-large, shape-in}
 use Rattle.page_runs.specs.Runs.{MapsRun}
@@ -49,24 +49,20 @@ use Rattle.region_space.specs.Space as region
 use Rattle.region_space.proofs.PackLemmas.{object-stays, pack-more}
 use Rattle.region_space.proofs.WalkLemmas.{in_use-filled}
 use Rattle.page_runs.specs.Covered.{covers}
-use Rattle.graph_pages.specs.Pages.{page_named, PagesHold}
-use Rattle.graph_pages.proofs.Computed.{table-grown}
+use Rattle.graph_pages.specs.Pages.{page_named}
 use Rattle.graph_pages.proofs.Grown.{grown-same}
 use Rattle.graph_pages.proofs.Lists.{in-filter, in-last}
 use Rattle.graph_pages.proofs.Named.{names-mapped}
 use Rattle.object_collection.proofs.Running.{filled-window}
 use Rattle.object_moves.specs.Copies.{PacksAt}
 use Rattle.object_moves.proofs.One.{covered-page}
-use Rattle.evacuate.specs.Stands.{home_of, homes_in, rows_from, young_homes, HoldsHeap, StandsFor}
+use Rattle.evacuate.specs.Stands.{home_of, homes_in, young_homes, HoldsHeap}
 use Rattle.evacuate.proofs.Members.{map-same, map-twice}
 use Rattle.evacuate.proofs.Packed.{young-table}
-use Rattle.large_objects.specs.declared.rows.LargeRow.{LargeRow}
-use Rattle.large_objects.specs.Pages as large
-use Rattle.large_objects.specs.Rows as large_rows
 use Rattle.root_list.specs.Roots.{with_root}
 use Rattle.zygote_compact.specs.Spots.{is_spot}
 use Rattle.process_state.specs.Acts.{Acts, Step}
-use Rattle.process_state.specs.Cards.{has_noted, NotesCards}
+use Rattle.process_state.specs.Cards.{has_noted}
 use Rattle.process_state.specs.Stands.{is_image_spot, HasFlags, StandsIn}
 use Rattle.process_state.specs.State.{addresses_in, heap_of, State}
 use Rattle.process_state.proofs.Pages.{named-beside, promoted-slot, waiting-slot}

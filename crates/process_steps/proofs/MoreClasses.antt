@@ -1,5 +1,5 @@
 -- What depends on the classes of a list of objects stays where more classes come behind them: sizes, addresses, rows and pages.
-use Rattle.std.proofs.Common.{◌≡◌, ◌∙◌, ◌+◌, ◌-◌, ◌&&◌, ℕ, Bool, true, false, cond, slice_index, List, [], ◌∷◌, ◌++◌, map, nat_eq, nat_le, nat_lt, refl, sym, ap, subst, inl, inr, arith}
+use Rattle.std.proofs.Common.{◌≡◌, ◌∙◌, ◌+◌, ◌-◌, ◌&&◌, ℕ, Bool, true, false, cond, slice_index, List, [], ◌∷◌, ◌++◌, nat_eq, nat_le, nat_lt, refl, sym, ap, subst, inl, inr, arith}
 use Rattle.std.specs.List.{list_any}
 use Rattle.model_numbers.specs.Numbers.{page_bytes}
 use Rattle.class_layout.specs.ClassList.{Class}

@@ -35,9 +35,9 @@ count-names table a n (x ∷ names) once within apart =
     let q : ℕ = page_named table x in
     let here = within x (inl refl) in
     let off : is_page_of table names q ≡ false = none_from (is_page_of table names q) (λ e.
-        let it = any-from (λ (y : PageName). nat_eq q (page_named table y)) names e in
-        let same : x ≡ it.0 = apart x it.0 (inl refl) (inr it.1) (eqb-true q (page_named table it.0) it.2) in
-        true≢false (sym (in-touched names x (subst (λ y. IsIn y names) (sym same) it.1)) ∙ parts.0)) in
+    let it = any-from (λ (y : PageName). nat_eq q (page_named table y)) names e in
+    let same : x ≡ it.0 = apart x it.0 (inl refl) (inr it.1) (eqb-true q (page_named table it.0) it.2) in
+    true≢false (sym (in-touched names x (subst (λ y. IsIn y names) (sym same) it.1)) ∙ parts.0)) in
     let one : ◌≡◌ {A = ℕ} (cond (is_page_of table (x ∷ names) q) 1 0) 1 = ap (λ b. cond b 1 0) (or_left (nat_eq q q) (is_page_of table names q) (eq-eqb q q refl)) in
     omega (
       arith,

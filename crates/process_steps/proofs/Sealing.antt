@@ -1,12 +1,11 @@
 -- A process that is sealed stands for its sealed part.
-use Rattle.std.proofs.Common.{◌≡◌, ◌∙◌, ℕ, Bool, true, false, true≢false, [], refl, sym, ap, subst}
+use Rattle.std.proofs.Common.{◌≡◌, ◌∙◌, true, false, true≢false, [], refl, sym, subst}
 use Rattle.std.proofs.lemmas.Bool.{and_parts}
-use Rattle.class_layout.specs.Placing.{IsIn}
 use Rattle.cow_pages.specs.Memory.{Memory}
 use Rattle.heap_graph.specs.declared.names.Place.{Place}
 use Rattle.heap_graph.specs.declared.names.Place.TheVariants as place
 use Rattle.heap_graph.specs.Formed.{is_in_image}
-use Rattle.heap_graph.specs.Graph.{is_immune, Graph, Object}
+use Rattle.heap_graph.specs.Graph.{is_immune, Object}
 use Rattle.heap_graph.proofs.LaidOut.{all-weaken}
 use Rattle.heap_world.specs.declared.command.Verb.TheVariants as verb
 use Rattle.heap_world.specs.declared.names.Card.{Card}

@@ -1,11 +1,10 @@
 -- Room for an object that was placed in a slot of its own.
-use Rattle.std.proofs.Common.{◌≡◌, ◌≢◌, ◌∙◌, ◌⊎◌, ℕ, zero, suc, ◌+◌, ◌-◌, ◌*◌, ◌<◌, ◌≤◌, Bool, true, false, true≢false, List, [], ◌∷◌, ◌++◌, map, length, refl, sym, ap, subst, inl, inr, arith, cond, is_some, nat_eq}
-use Rattle.std.specs.Prelude.{nat_le, nat_lt, slice_index, ◌||◌, ◌&&◌, ◌==◌}
+use Rattle.std.proofs.Common.{◌≡◌, ◌≢◌, ◌∙◌, ◌⊎◌, ℕ, zero, suc, ◌+◌, ◌-◌, ◌*◌, ◌<◌, ◌≤◌, true, false, true≢false, List, [], ◌∷◌, ◌++◌, map, length, refl, sym, ap, subst, inl, inr, arith, cond, is_some}
+use Rattle.std.specs.Prelude.{nat_le, slice_index, ◌||◌, ◌&&◌, ◌==◌}
 use Rattle.std.specs.List.{list_any}
 use Rattle.std.proofs.lemmas.Bool.{and_from, and_parts, cases_lt, eq-eqb, le-leb, leb-true, lt-ltb, ne_eqb, or_left, or_right}
 use Rattle.std.proofs.lemmas.List.Elements.{filter-append}
 use Rattle.std.proofs.lemmas.List.{append-nil, get_or_append_left, length-append, length-map, map-append}
-
 use Rattle.std.proofs.Math.Seq.{get_or-append_seam}
 use Rattle.class_layout.specs.ClassList.{Class}
 use Rattle.model_numbers.specs.Numbers.{large_base, large_slot_bytes, large_slot_count, region_bytes}
@@ -16,15 +15,15 @@ use Rattle.cow_pages.specs.View.{view_of}
 use Rattle.heap_graph.specs.declared.names.Place.TheVariants as place
 use Rattle.heap_graph.specs.declared.names.Shape.{Shape}
 use Rattle.heap_graph.specs.Allocation.{with_object}
-use Rattle.heap_graph.specs.Formed.{AreRising, IsFormed, SuitsShape}
+use Rattle.heap_graph.specs.Formed.{AreRising, IsFormed}
 use Rattle.heap_graph.specs.Graph.{is_young, size_of_object, Graph, Object}
 use Rattle.heap_graph.specs.Packing.{end_from, used, young_objects}
-use Rattle.heap_graph.specs.Sizes.{is_large, parts_for, size_in, unrounded}
-use Rattle.heap_graph.proofs.Sizes.{not-large, size-least, unrounded-least}
+use Rattle.heap_graph.specs.Sizes.{parts_for, size_in, unrounded}
+use Rattle.heap_graph.proofs.Sizes.{not-large, unrounded-least}
 use Rattle.heap_world.specs.Part.{Part}
 use Rattle.object_view.specs.Changes.{pages_in, AreAlone}
 use Rattle.object_view.specs.Objects.{IsSpace}
-use Rattle.page_runs.specs.Runs.{IsInRun, MapsRun}
+use Rattle.page_runs.specs.Runs.{IsInRun}
 use Rattle.page_runs.proofs.RunLemmas.{side}
 use Rattle.image_space.specs.Space.{pages_up_to}
 use Rattle.large_objects.specs.declared.rows.LargeRow.{LargeRow}
@@ -65,7 +64,7 @@ numbers-push most ns n are few apart = (below, once)
     front i low = get_or_append_left ns (n ∷ []) 0 i low
 
     last : (i : ℕ) → i < length (ns ++ n ∷ []) → (i < length ns → ⊥) → i ≡ length ns
-    last i low high = let whole = length-append ns (n ∷ []) in elim (cases_lt i (length ns)) [ | inl less ↦ absurd (high less) | inr more ↦ omega (arith, low, whole, more) ]
+    last i low high = let whole = length-append ns (n ∷ []) in elim (cases_lt i (length ns)) [ inl less ↦ absurd (high less) | inr more ↦ omega (arith, low, whole, more) ]
 
     seam : (i : ℕ) → i ≡ length ns → slice_index (ns ++ n ∷ []) i ≡ n
     seam i e = ap (slice_index (ns ++ n ∷ [])) e ∙ get_or-append_seam ns n [] 0

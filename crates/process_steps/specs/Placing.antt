@@ -1,5 +1,5 @@
 -- A new object of a process: where it is placed, and what its making leaves.
-use Rattle.std.specs.Prelude.{◌≡◌, ℕ, ◌+◌, ◌%◌, Bool, true, List, []}
+use Rattle.std.specs.Prelude.{◌≡◌, ℕ, ◌+◌, ◌%◌, Bool, List, []}
 use Rattle.page_tables.specs.Address.{page_of}
 use Rattle.cow_pages.specs.Memory.{IsSound, Memory}
 use Rattle.cow_pages.specs.View.{view_of}

@@ -1,5 +1,5 @@
 -- A promotion of a process, as the calls that make it leave it.
-use Rattle.std.specs.Prelude.{◌≡◌, ℕ, [], List, map}
+use Rattle.std.specs.Prelude.{◌≡◌, [], List, map}
 use Rattle.page_tables.specs.declared.address.Window.TheVariants as window
 use Rattle.cow_pages.specs.Memory.{mapped_in, Memory}
 use Rattle.cow_pages.specs.Only.{OnlyTable}

@@ -33,7 +33,7 @@ pub fn large_objects_act()
         → HasPlace placed between p shape place.Large at → IsMade c p root shape slots place.Large placed between at → Acts c p (after_make p root shape (Made (with_object p.graph shape slots place.Large) false)) }
 {}
 
-/// A process in which an object was placed and written, and its root, does what the definition of the making says where
+/// A process in whose image an object was placed and written, and its root, does what the definition of the making says where
 /// there is room.
 pub fn image_objects_act()
     ensures { (c : Step) (p : Part) (root : List ℕ) (shape : Shape) (slots : List Stored) (placed : State) (between : Memory) (at : ℕ) → StandsIn c.old c.was p → p.graph.sealed ≡ false
