@@ -29,3 +29,4 @@ pub mod SlotRoom
 pub mod Sealing
 pub mod Beginning
 pub mod Finds
+mod YoungRoom

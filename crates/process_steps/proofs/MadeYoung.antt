@@ -85,7 +85,7 @@ young-last : (cs : List Class) (end : ℕ) (os : List Object) → young_end cs e
 young-last cs end [] = refl
 young-last cs end (o ∷ os) = ap (λ n. young_end cs n os) (next-is cs end o o.place) ∙ young-last cs (end_behind cs end o o.place) os
 
-last-is : (g : Graph) → end_from 0 (young_sizes g) ≡ last_end g.classes 0 g.objects
+pub last-is : (g : Graph) → end_from 0 (young_sizes g) ≡ last_end g.classes 0 g.objects
 last-is g = end-is g.classes 0 g.objects ∙ young-last g.classes 0 g.objects
 
 module _ (s : State) (regions : Space) (was between now : Memory) (p : Part) (root : List ℕ) (shape : Shape) (slots : List Stored) (at : ℕ) (k : StandsIn s was p) (sealed : p.graph.sealed ≡ true) where

@@ -43,6 +43,7 @@ pub record PlacesInRegions (old new : State) (was between : Memory) (at size : �
   pub objects : new.regions.objects ≡ old.regions.objects + 1
   pub space : region.IsSpace (region.lists_of new.regions)
   pub pages : MapsPages old was between (region.further_from old.regions.in_use at size) (region.further_pages old.regions.in_use size)
+  pub mapped : region.HasPages between old.page_table (region.filled (region.lists_of new.regions))
 
 -- in a slot of its own; its bytes are not rounded
 pub record PlacesInSlot (old new : State) (was between : Memory) (at bytes : ℕ) : Type 0 where

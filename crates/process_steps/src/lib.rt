@@ -17,6 +17,9 @@ pub use found::objects_are_found;
 pub use made::{image_objects_act, large_objects_act, young_objects_act};
 pub use promotions::{forks_act, promotions_act};
 pub use quiet::{commands_keep_parts, counted_dumps_act, roots_act, unchanged_processes_act};
-pub use rooms::{image_objects_have_room, large_objects_have_room, new_graphs_are_formed};
+pub use rooms::{
+    image_objects_have_room, large_objects_have_room, new_graphs_are_formed,
+    young_objects_have_room,
+};
 pub use seals::{first_processes_stand, seals_act};
 pub use stores::stores_act;

@@ -14,7 +14,7 @@ ghost use Rattle.heap_world.specs.Acts.{root_written, with_slot};
 ghost use Rattle.heap_world.specs.Part.{Part};
 ghost use Rattle.process_state.specs.Stands.{StandsIn};
 ghost use Rattle.process_state.specs.State.{State};
-ghost use Rattle.process_steps.specs.Placing.{HasPlace, PlacesInImage, PlacesInSlot};
+ghost use Rattle.process_steps.specs.Placing.{HasPlace, PlacesInImage, PlacesInRegions, PlacesInSlot};
 
 /// A graph with a new object is formed if it is with the root that is written last, and then it is without the object's slots
 /// too. A slot of the new object that is stored to is one with which it is made.
@@ -33,4 +33,10 @@ pub fn image_objects_have_room()
 pub fn large_objects_have_room()
     ensures { (s placed : State) (was between : Memory) (p : Part) (shape : Shape) (at : ℕ) → StandsIn s was p → p.graph.sealed ≡ true → IsFormed (with_object p.graph shape [] place.Large)
         → PlacesInSlot s placed was between at (unrounded p.graph.classes shape) → HasPlace placed between p shape place.Large at }
+{}
+
+/// Where an object was placed in the regions there is room for it, if the graph with it is formed.
+pub fn young_objects_have_room()
+    ensures { (s placed : State) (was between : Memory) (p : Part) (shape : Shape) (at : ℕ) → StandsIn s was p → p.graph.sealed ≡ true → IsFormed (with_object p.graph shape [] place.Young)
+        → PlacesInRegions s placed was between at (size_in p.graph.classes shape) → HasPlace placed between p shape place.Young at }
 {}
